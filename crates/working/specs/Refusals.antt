@@ -1,0 +1,49 @@
+-- Document 01, "Reasons by who causes them": the numbers, and a list of tests that is scanned for the first that holds.
+use Prim.Native.Nat.{ℕ}
+use mathlib.Core.Bool.{Bool, true, false}
+use mathlib.Core.List.{List, [], _∷_}
+use Rattle.working.specs.declared.Refusal.{Refusal}
+use Rattle.working.specs.declared.Refusal.the-variants.{EndsInside, UnknownKind, WrongMap, OutOfRange, IllMade, AlreadyInForce, NotInForce, VehiclePresent, BeforeClock, OpenerAway, HoldsLineClear, OwesLineClear, GuestHere, NoGuest, NoLineClear, GrantNotAllowed, TwelveSent, FormsUsed, IntervalRunning, NotNearest, MayNotEnter, MayNotMeet, BufferTooShort}
+use Rattle.working.specs.declared.Verdict.{Verdict}
+use Rattle.working.specs.declared.Verdict.the-variants.{Allowed, Refused}
+
+-- document 01's number of each refusal
+abbrev pub numberOf : Refusal → ℕ
+-- whoever writes the log
+numberOf EndsInside = 1
+numberOf UnknownKind = 2
+numberOf WrongMap = 3
+numberOf OutOfRange = 4
+-- whoever lends memory
+numberOf IllMade = 5
+numberOf BufferTooShort = 23
+-- whoever declares
+numberOf AlreadyInForce = 6
+numberOf NotInForce = 7
+numberOf VehiclePresent = 8
+-- the station master
+numberOf BeforeClock = 9
+numberOf OpenerAway = 10
+numberOf HoldsLineClear = 11
+numberOf OwesLineClear = 12
+numberOf GuestHere = 13
+numberOf NoGuest = 14
+numberOf NoLineClear = 15
+numberOf GrantNotAllowed = 16
+numberOf TwelveSent = 17
+numberOf FormsUsed = 18
+numberOf IntervalRunning = 19
+-- those on the line
+numberOf NotNearest = 20
+numberOf MayNotEnter = 21
+numberOf MayNotMeet = 22
+
+-- the refusal where its test holds, else what the later tests come to
+abbrev pub orElse : Bool → Refusal → Verdict → Verdict
+orElse true why later = Refused why
+orElse false why later = later
+
+-- the first test that holds says why; where none does, the entry is allowed
+abbrev pub firstOf : List (Bool × Refusal) → Verdict
+firstOf [] = Allowed
+firstOf (t ∷ later) = orElse (t .0) (t .1) (firstOf later)

@@ -4,5 +4,6 @@ pub mod Found
 pub mod Judged
 pub mod ReadThenWritten
 pub mod ReadingEnds
+pub mod Session
 pub mod Tests
 pub mod WrittenThenRead

@@ -1,2 +1,11 @@
+pub mod Demand3
+pub mod Departures
+pub mod Effects
 pub mod Entries
+pub mod Events
+pub mod Reasons
 pub mod Refusals
+pub mod Runs
+pub mod Sections
+pub mod Steps
+pub mod WellMade

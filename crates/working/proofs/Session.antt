@@ -1,0 +1,53 @@
+-- Document 01's session, by computation: each entry's answer, and the section at the end.
+-- Assumes nothing.
+use mathlib.Core.Path.{_≡_, refl}
+use mathlib.Core.List.{List, [], _∷_}
+use Prim.Native.Nat.{ℕ}
+use Rattle.working.specs.declared.Answer.{Answer}
+use Rattle.working.specs.declared.Answer.the-variants.{Refused, Accepted}
+use Rattle.working.specs.declared.Refusal.the-variants.{IntervalRunning}
+use Rattle.working.specs.declared.Section.{Section}
+use Rattle.working.specs.declared.Speed.the-variants.{NoSpeed, Kmh, Booked}
+use Rattle.working.specs.declared.Stepped.{Stepped}
+use Rattle.working.specs.Entries.{lengthOf, bytesOf, entryIn, mapFits, rangesHold, judge, readAt}
+use Rattle.working.specs.Events.{decode}
+use Rattle.working.specs.Runs.{runFrom, runOf, endOf}
+use Rattle.working.specs.Sections.{padTo, fresh}
+use Rattle.working.specs.Steps.{entered, stepOf}
+use Rattle.working.specs.WellMade.{wellMade}
+
+abbrev pub answersOf : List Stepped → List Answer
+answersOf [] = []
+answersOf (r ∷ l) = r .answer ∷ answersOf l
+
+abbrev session : List ℕ
+session =
+    0x01 ∷ 0x01
+    ∷ 0x3F ∷ 0x02 ∷ 0x01 ∷ 0x00 ∷ 0x0A ∷ 0x01 ∷ 0x01 ∷ 0x02
+    ∷ 0x87 ∷ 0x06 ∷ 0x02 ∷ 0x00 ∷ 0x46 ∷ 0x01 ∷ 0x00 ∷ 0x01
+    ∷ 0x47 ∷ 0x04 ∷ 0x02 ∷ 0x00 ∷ 0x4B ∷ 0x02
+    ∷ 0x87 ∷ 0x06 ∷ 0x01 ∷ 0x00 ∷ 0x5F ∷ 0x02 ∷ 0x00 ∷ 0x01
+    ∷ 0x0F ∷ 0x05 ∷ 0x01 ∷ 0x00 ∷ 0x60 ∷ 0x01
+    ∷ 0x0F ∷ 0x05 ∷ 0x01 ∷ 0x00 ∷ 0x7D ∷ 0x01
+    ∷ 0x0F ∷ 0x05 ∷ 0x01 ∷ 0x00 ∷ 0x7E ∷ 0x01
+    ∷ []
+
+the-session : answersOf (runOf fresh session) ≡
+    Accepted 0 0 NoSpeed
+    ∷ Accepted 1 7 (Kmh 15)
+    ∷ Accepted 0 0 NoSpeed
+    ∷ Accepted 1 180 Booked
+    ∷ Accepted 0 0 NoSpeed
+    ∷ Accepted 2 168 Booked
+    ∷ Refused IntervalRunning
+    ∷ Accepted 3 104 (Kmh 25)
+    ∷ []
+unfolding runFrom stepOf wellMade decode readAt judge mapFits rangesHold entryIn lengthOf entered padTo
+the-session = refl
+
+last : Section
+last = endOf fresh (runOf fresh session)
+
+the-end : (last .len ≡ 2) × (last .a .holds ≡ 0) × (last .a .owes ≡ 0) × (last .b .holds ≡ 0) × (last .b .owes ≡ 2)
+unfolding last runFrom stepOf wellMade decode readAt judge mapFits rangesHold entryIn lengthOf entered padTo
+the-end = (refl, refl, refl, refl, refl)

@@ -1,0 +1,91 @@
+-- Demand 3, one statement about every list of steps from a fresh section. In plain words, clause by clause, beside document 01: docs/THEOREM.md.
+use Prim.Native.Nat.{ℕ, _+_, _<_}
+use mathlib.Core.Path.{_≡_}
+use mathlib.Core.Bool.{Bool, true, false, cond}
+use mathlib.Core.List.{List, [], _∷_, _++_}
+use mathlib.Core.Option.{Option, none, some}
+use lib.ListN.{getD}
+use Rattle.working.specs.declared.Act.{Act}
+use Rattle.working.specs.declared.Act.the-variants.{Receives}
+use Rattle.working.specs.declared.Answer.{Answer}
+use Rattle.working.specs.declared.Answer.the-variants.{Refused, Accepted}
+use Rattle.working.specs.declared.Event.the-variants.{At}
+use Rattle.working.specs.declared.Movement.{Movement}
+use Rattle.working.specs.declared.Movement.the-variants.{Open, Through, Return, Train}
+use Rattle.working.specs.declared.Section.{Section}
+use Rattle.working.specs.declared.Station.{Station}
+use Rattle.working.specs.declared.Station.the-variants.{A, B}
+use Rattle.working.specs.declared.Vehicle.{Vehicle}
+use Rattle.working.specs.Departures.{Departure, Kind, kindIn, kindOf, departureOf, leftSlowly, leftOnTrain}
+use Rattle.working.specs.Events.{decode, Says}
+use Rattle.working.specs.Runs.{Done, Run, results, resultsOf}
+use Rattle.working.specs.Sections.{numberAt, otherAt, unused, lineOf, deskOf, fresh}
+use Rattle.working.specs.WellMade.{isFrom, oneIf, sumOver}
+
+-- the vehicle at a place, counted from A
+abbrev pub vehicleAt : Section → ℕ → Vehicle
+vehicleAt s i = getD (lineOf s) i unused
+
+-- ---- line clears
+
+-- a figure of a station's vehicles, 0 of the other's
+abbrev pub ofStation : Station → (Vehicle → ℕ) → Vehicle → ℕ
+ofStation x f v = cond (isFrom (numberAt x) v) (f v) 0
+
+-- "A station's trains are its vehicles that left on TRAIN."
+abbrev pub trainsOf : List Done → Section → Station → ℕ
+trainsOf l s x = sumOver (ofStation x (λ v. oneIf (leftOnTrain (departureOf l v)))) (lineOf s)
+
+abbrev pub grantedIn : Movement → ℕ
+grantedIn (Open asked) = 0
+grantedIn Through = 0
+grantedIn (Return asked granted) = granted
+grantedIn (Train asked granted) = granted
+
+-- "Line clears on the way to a station are the granted carried by the other's vehicles in the section."
+abbrev pub onTheWayTo : Section → Station → ℕ
+onTheWayTo s x = sumOver (ofStation (otherAt x) (λ v. grantedIn (v .movement))) (lineOf s)
+
+-- ---- neighbours
+
+abbrev pub isAccepted : Answer → Bool
+isAccepted (Refused why) = false
+isAccepted (Accepted number forms speed) = true
+
+abbrev pub formIn : Answer → ℕ
+formIn (Refused why) = 0
+formIn (Accepted number forms speed) = number
+
+-- a step that is an accepted entry of station x and no MEET: an OPEN, THROUGH, RETURN, TRAIN or RECEIVE. "BEGIN and RESUME belong to neither station."
+pub record AcceptedAt (d : Done) (x : Station) (act : Act) : Type 0 where
+  pub time : ℕ
+  pub entry : decode (d .bytes) ≡ Says (At x time act)
+  pub accepted : isAccepted (d .answer) ≡ true
+
+abbrev pub isSome : Option Kind → Bool
+isSome none = false
+isSome (some kind) = true
+
+abbrev pub isDeparture : Act → Bool
+isDeparture act = isSome (kindOf act)
+
+-- "The second of two entries receives what the first sent where the first is a departure and the second a RECEIVE that names the first's station as sender and the form number in the first's answer."
+abbrev pub ReceivesIt : Act → Station → Answer → Act → Type 0
+ReceivesIt first x answer second = (isDeparture first ≡ true) × (second ≡ Receives x (formIn answer))
+
+-- ---- the whole
+
+pub record Demand3 {l : List Done} {s : Section} (run : Run fresh l s) : Type 0 where
+  -- each step, accepted or refused, has the answer and the section that the definitions fix for it
+  pub each : results run ≡ resultsOf fresh l
+  -- every vehicle present has its departure in the list, of the kind that its record says
+  pub departed : (i : ℕ) → i < s .len → (p : Departure) × (departureOf l (vehicleAt s i) ≡ some p) × (p .kind ≡ kindIn (vehicleAt s i .movement))
+  -- any two vehicles heading towards one another both left on T/B 602 at 15 km/h or less
+  pub opposed : (i j : ℕ) → i < j → j < s .len → vehicleAt s i .heading ≡ numberAt B → vehicleAt s j .heading ≡ numberAt A
+    → (leftSlowly (departureOf l (vehicleAt s i)) ≡ true) × (leftSlowly (departureOf l (vehicleAt s j)) ≡ true)
+  -- line clears owed by each station = those the other holds + the other's trains in the section + line clears on the way to the other
+  pub owed : s .force ≡ true → (x : Station) → deskOf s x .owes ≡ deskOf s (otherAt x) .holds + trainsOf l s (otherAt x) + onTheWayTo s (otherAt x)
+  -- two neighbours change places: every entry has the same answer, and the section is the same in every figure
+  pub swap : (before : List Done) (d e : Done) (after : List Done) (x y : Station) (first second : Act) → l ≡ before ++ d ∷ e ∷ after
+    → AcceptedAt d x first → AcceptedAt e y second → (x ≡ y → ⊥) → (ReceivesIt first x (d .answer) second → ⊥)
+    → Run fresh (before ++ e ∷ d ∷ after) s

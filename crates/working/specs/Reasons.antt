@@ -1,0 +1,116 @@
+-- Document 01, "Reasons by who causes them": what each kind is refused for, in rising order. Refusals 1 to 4 stand in Entries.
+use Prim.Native.Nat.{ℕ, zero, suc, _+_}
+use mathlib.Core.Bool.{Bool, false, not, cond, _&&_, _||_}
+use mathlib.Core.List.{List, [], _∷_}
+use lib.Dec.{eqb, leb, ltb}
+use lib.ListN.{length, getD}
+use Rattle.working.specs.declared.Desk.{Desk}
+use Rattle.working.specs.declared.Interval.{Interval}
+use Rattle.working.specs.declared.Interval.the-variants.{Stopped, Since}
+use Rattle.working.specs.declared.Refusal.{Refusal}
+use Rattle.working.specs.declared.Refusal.the-variants.{AlreadyInForce, NotInForce, VehiclePresent, BeforeClock, OpenerAway, HoldsLineClear, OwesLineClear, GuestHere, NoGuest, NoLineClear, GrantNotAllowed, TwelveSent, FormsUsed, IntervalRunning, NotNearest, MayNotEnter, MayNotMeet}
+use Rattle.working.specs.declared.Station.{Station}
+use Rattle.working.specs.declared.Vehicle.{Vehicle}
+use Rattle.working.specs.Entries.{every}
+use Rattle.working.specs.Sections.{numberAt, unused}
+use Rattle.working.specs.WellMade.{isOpener}
+
+-- ---- whoever declares
+
+abbrev pub beginTests : Bool → List (Bool × Refusal)
+beginTests force = (force, AlreadyInForce) ∷ []  -- 6
+
+abbrev pub resumeTests : Bool → ℕ → List (Bool × Refusal)
+resumeTests force present =
+    (not force, NotInForce)  -- 7
+    ∷ (ltb 0 present, VehiclePresent)  -- 8
+    ∷ []
+
+-- ---- the station master
+
+-- "19 interval running, under 30 minutes"
+abbrev pub isUnder : Interval → ℕ → Bool
+isUnder Stopped time = false
+isUnder (Since minute) time = ltb time (minute + 30)
+
+-- departures
+abbrev pub departTests : Desk → ℕ → List (Bool × Refusal)
+departTests d time =
+    (leb 12 (d .sent), TwelveSent)  -- 17
+    ∷ (leb 9999 (d .last), FormsUsed)  -- 18
+    ∷ (isUnder (d .interval) time, IntervalRunning)  -- 19
+    ∷ []
+
+-- OPEN and THROUGH
+abbrev pub openTests : Bool → Desk → ℕ → List (Bool × Refusal)
+openTests force d time =
+    (not force, NotInForce)  -- 7
+    ∷ (ltb time (d .clock), BeforeClock)  -- 9
+    ∷ (d .out, OpenerAway)  -- 10
+    ∷ (ltb 0 (d .holds), HoldsLineClear)  -- 11
+    ∷ (ltb 0 (d .owes), OwesLineClear)  -- 12
+    ∷ (ltb 0 (d .guest), GuestHere)  -- 13
+    ∷ departTests d time
+
+abbrev pub returnTests : Bool → Desk → ℕ → ℕ → List (Bool × Refusal)
+returnTests force d time granted =
+    (not force, NotInForce)  -- 7
+    ∷ (ltb time (d .clock), BeforeClock)  -- 9
+    ∷ (ltb 0 (d .holds), HoldsLineClear)  -- 11
+    ∷ (eqb (d .guest) 0, NoGuest)  -- 14
+    ∷ (ltb (d .asked) granted, GrantNotAllowed)  -- 16
+    ∷ departTests d time
+
+-- 16: "granted above asked at S, or on a TRAIN that leaves holds above 0"
+abbrev pub trainTests : Bool → Desk → ℕ → ℕ → List (Bool × Refusal)
+trainTests force d time granted =
+    (not force, NotInForce)  -- 7
+    ∷ (ltb time (d .clock), BeforeClock)  -- 9
+    ∷ (eqb (d .holds) 0, NoLineClear)  -- 15
+    ∷ (ltb (d .asked) granted || (ltb 0 granted && ltb 1 (d .holds)), GrantNotAllowed)  -- 16
+    ∷ departTests d time
+
+-- ---- those on the line
+
+abbrev pub isNamed : Station → ℕ → Vehicle → Bool
+isNamed sender form v = eqb (v .sender) (numberAt sender) && eqb (v .form) form
+
+-- "S's own must be OPEN or THROUGH, unmet or heading to S; O's must head to S"
+abbrev pub mayEnter : Station → Vehicle → Bool
+mayEnter x v =
+    cond (eqb (v .sender) (numberAt x))
+    (isOpener (v .movement) && (not (v .met) || eqb (v .heading) (numberAt x)))
+    (eqb (v .heading) (numberAt x))
+
+-- v is the vehicle nearest S
+abbrev pub receiveTests : Station → Bool → Desk → ℕ → Station → ℕ → Vehicle → List (Bool × Refusal)
+receiveTests x force d time sender form v =
+    (not force, NotInForce)  -- 7
+    ∷ (ltb time (d .clock), BeforeClock)  -- 9
+    ∷ (not (isNamed sender form v), NotNearest)  -- 20
+    ∷ (not (mayEnter x v), MayNotEnter)  -- 21
+    ∷ []
+
+-- the place of the vehicle named, or the length of the line where it is not present
+abbrev pub findOf : Station → ℕ → List Vehicle → ℕ
+findOf sender form [] = 0
+findOf sender form (v ∷ l) = cond (isNamed sender form v) 0 (suc (findOf sender form l))
+
+-- the vehicle at place i is present "and heads to B, its neighbour towards B heads to A, and both are OPEN or THROUGH"
+abbrev pub meetingTests : List Vehicle → ℕ → List Bool
+meetingTests l i =
+    ltb (i + 1) (length l)
+    ∷ eqb (getD l i unused .heading) 2
+    ∷ eqb (getD l (i + 1) unused .heading) 1
+    ∷ isOpener (getD l i unused .movement)
+    ∷ isOpener (getD l (i + 1) unused .movement)
+    ∷ []
+
+abbrev pub mayMeet : List Vehicle → ℕ → Bool
+mayMeet l i = every (meetingTests l i)
+
+abbrev pub meetTests : Bool → List Vehicle → ℕ → List (Bool × Refusal)
+meetTests force l i =
+    (not force, NotInForce)  -- 7
+    ∷ (not (mayMeet l i), MayNotMeet)  -- 22
+    ∷ []

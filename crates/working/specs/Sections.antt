@@ -1,0 +1,81 @@
+-- Document 01, "The section": the two stations, the vehicles in order from A to B, the desks, and the fresh section.
+use Prim.Native.Nat.{ℕ, zero, suc, _+_, _-_}
+use mathlib.Core.Bool.{Bool, true, false, cond}
+use mathlib.Core.List.{List, [], _∷_, _++_}
+use lib.Dec.{ltb}
+use lib.ListN.{length, take, drop, getD}
+use Rattle.working.specs.declared.Desk.{Desk}
+use Rattle.working.specs.declared.Interval.the-variants.{Stopped}
+use Rattle.working.specs.declared.Movement.the-variants.{Open}
+use Rattle.working.specs.declared.Section.{Section}
+use Rattle.working.specs.declared.Station.{Station}
+use Rattle.working.specs.declared.Station.the-variants.{A, B}
+use Rattle.working.specs.declared.Vehicle.{Vehicle}
+
+-- "Station 1 is A, 2 is B"
+abbrev pub numberAt : Station → ℕ
+numberAt A = 1
+numberAt B = 2
+
+abbrev pub otherAt : Station → Station
+otherAt A = B
+otherAt B = A
+
+-- ---- the places
+
+-- an unused place: zero in every figure
+abbrev pub unused : Vehicle
+unused = record { movement = Open 0; sender = 0; form = 0; heading = 0; met = false; class = 0 }
+
+-- the first n of l, and unused places where l has fewer
+unfoldable pub padTo : ℕ → List Vehicle → List Vehicle
+padTo zero l = []
+padTo (suc n) [] = unused ∷ padTo n []
+padTo (suc n) (v ∷ l) = v ∷ padTo n l
+
+-- "up to 24 vehicles in order from A to B": the vehicles present, and the section with others in their place
+abbrev pub lineOf : Section → List Vehicle
+lineOf s = take (s .len) (s .vehicles)
+
+abbrev pub withLine : Section → List Vehicle → Section
+withLine s l = record { vehicles = padTo 24 l; len = length l; force = s .force; refused = s .refused; a = s .a; b = s .b }
+
+-- a vehicle enters at a station's end; the one there leaves; the one there, or the unused place where there is none
+abbrev pub insertAt : Station → Vehicle → List Vehicle → List Vehicle
+insertAt A v l = v ∷ l
+insertAt B v l = l ++ v ∷ []
+
+abbrev pub removeAt : Station → List Vehicle → List Vehicle
+removeAt A l = drop 1 l
+removeAt B l = take (length l - 1) l
+
+abbrev pub nearestAt : Station → List Vehicle → Vehicle
+nearestAt A l = getD l 0 unused
+nearestAt B l = getD l (length l - 1) unused
+
+-- ---- the desks
+
+abbrev pub deskOf : Section → Station → Desk
+deskOf s A = s .a
+deskOf s B = s .b
+
+abbrev pub withDesk : Section → Station → Desk → Section
+withDesk s A d = record { vehicles = s .vehicles; len = s .len; force = s .force; refused = s .refused; a = d; b = s .b }
+withDesk s B d = record { vehicles = s .vehicles; len = s .len; force = s .force; refused = s .refused; a = s .a; b = d }
+
+-- "a 32-bit count of refused entries that stops at its largest value"
+abbrev pub countRefusal : Section → Section
+countRefusal s = record { vehicles = s .vehicles; len = s .len; force = s .force; refused = cond (ltb (s .refused) 4294967295) (s .refused + 1) (s .refused); a = s .a; b = s .b }
+
+-- ---- the fresh section
+
+abbrev pub freshDesk : Desk
+freshDesk = record { clock = 0; last = 0; sent = 0; interval = Stopped; out = false; guest = 0; asked = 0; holds = 0; owes = 0 }
+
+-- all but the count as fresh, in force or not
+abbrev pub emptied : Bool → ℕ → Section
+emptied force count = record { vehicles = padTo 24 []; len = 0; force = force; refused = count; a = freshDesk; b = freshDesk }
+
+-- "The fresh section is not in force and all else is zero or none."
+abbrev pub fresh : Section
+fresh = emptied false 0

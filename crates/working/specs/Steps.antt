@@ -1,0 +1,108 @@
+-- The step on a section and bytes: a station decides by its own desk and the vehicle nearest it, and acts on that desk and at its own end of the line.
+use Prim.Native.Nat.{ℕ, zero, suc}
+use mathlib.Core.Bool.{Bool, true, false}
+use mathlib.Core.List.{List, [], _∷_}
+use lib.Dec.{eqb}
+use Rattle.working.specs.declared.Act.{Act}
+use Rattle.working.specs.declared.Act.the-variants.{Opens, Passes, Returns, Runs, Receives}
+use Rattle.working.specs.declared.Answer.the-variants as answer
+use Rattle.working.specs.declared.Desk.{Desk}
+use Rattle.working.specs.declared.Event.{Event}
+use Rattle.working.specs.declared.Event.the-variants.{Begin, At, Meet, Resume}
+use Rattle.working.specs.declared.Movement.the-variants.{Open, Through, Return, Train}
+use Rattle.working.specs.declared.Plan.{Plan}
+use Rattle.working.specs.declared.Plan.the-variants.{Refuse, Depart, Arrive}
+use Rattle.working.specs.declared.Refusal.{Refusal}
+use Rattle.working.specs.declared.Refusal.the-variants.{IllMade}
+use Rattle.working.specs.declared.Section.{Section}
+use Rattle.working.specs.declared.Speed.the-variants.{NoSpeed, Booked}
+use Rattle.working.specs.declared.Station.{Station}
+use Rattle.working.specs.declared.Stepped.{Stepped}
+use Rattle.working.specs.declared.Vehicle.{Vehicle}
+use Rattle.working.specs.declared.Verdict.{Verdict}
+use Rattle.working.specs.declared.Verdict.the-variants.{Allowed, Refused}
+use Rattle.working.specs.Effects.{openSpeed, trainSpeed, openForms, throughForms, clearForms, vehicleFor, openDesk, throughDesk, returnDesk, trainDesk, arriveDesk}
+use Rattle.working.specs.Events.{Decoded, Says, Bad, decode}
+use Rattle.working.specs.Reasons.{beginTests, resumeTests, openTests, returnTests, trainTests, receiveTests, findOf, meetTests}
+use Rattle.working.specs.Refusals.{firstOf}
+use Rattle.working.specs.Sections.{numberAt, lineOf, withLine, insertAt, removeAt, nearestAt, deskOf, withDesk, countRefusal, emptied}
+use Rattle.working.specs.WellMade.{wellMade}
+
+-- ---- a station decides
+
+abbrev pub unlessRefused : Verdict → Plan → Plan
+unlessRefused (Refused why) plan = Refuse why
+unlessRefused Allowed plan = plan
+
+-- what an act of station x, whose desk is d and whose nearest vehicle is v, comes to
+abbrev pub planOf : Act → Station → Bool → Desk → ℕ → Vehicle → Plan
+planOf (Opens view class asked) x force d time v =
+    unlessRefused (firstOf (openTests force d time)) (Depart (openDesk d time) (Open asked) class openForms (openSpeed view))
+planOf (Passes view) x force d time v =
+    unlessRefused (firstOf (openTests force d time)) (Depart (throughDesk d time) Through 1 throughForms (openSpeed view))
+planOf (Returns asked granted) x force d time v =
+    unlessRefused (firstOf (returnTests force d time granted))
+    (Depart (returnDesk d time granted) (Return asked granted) (d .guest) (clearForms x true asked granted) Booked)
+planOf (Runs view asked granted) x force d time v =
+    unlessRefused (firstOf (trainTests force d time granted))
+    (Depart (trainDesk d time granted) (Train asked granted) 0 (clearForms x (eqb (d .sent) 0) asked granted) (trainSpeed (eqb (d .sent) 0) view))
+planOf (Receives sender form) x force d time v =
+    unlessRefused (firstOf (receiveTests x force d time sender form v)) (Arrive (arriveDesk x d time v))
+
+-- ---- and acts at its own end
+
+-- "A refusal adds 1 to the count and alters nothing else"
+abbrev pub refused : Section → Refusal → Stepped
+refused s why = record { answer = answer.Refused why; section = countRefusal s }
+
+-- accepted with no form, no forms and no speed
+abbrev pub accepted : Section → Stepped
+accepted s = record { answer = answer.Accepted 0 0 NoSpeed; section = s }
+
+abbrev pub doneBy : Section → Station → Plan → Stepped
+doneBy s x (Refuse why) = refused s why
+doneBy s x (Depart d movement class forms speed) = record {
+  answer = answer.Accepted (d .last) forms speed;
+  section = withDesk (withLine s (insertAt x (vehicleFor x (d .last) movement class) (lineOf s))) x d;
+}
+doneBy s x (Arrive d) = accepted (withDesk (withLine s (removeAt x (lineOf s))) x d)
+
+-- ---- BEGIN, MEET and RESUME stand apart
+
+abbrev pub settled : Section → Verdict → Section → Stepped
+settled s (Refused why) t = refused s why
+settled s Allowed t = accepted t
+
+-- "both then head to the station given and are met": one of them, and the one at place i of a line
+abbrev pub turned : Station → Vehicle → Vehicle
+turned x v = record { movement = v .movement; sender = v .sender; form = v .form; heading = numberAt x; met = true; class = v .class }
+
+abbrev pub turnAt : Station → ℕ → List Vehicle → List Vehicle
+turnAt x i [] = []
+turnAt x zero (v ∷ l) = turned x v ∷ l
+turnAt x (suc i) (v ∷ l) = v ∷ turnAt x i l
+
+-- "MEET: names the one of the pair nearer A"
+abbrev pub metAt : Station → ℕ → List Vehicle → List Vehicle
+metAt x i l = turnAt x (suc i) (turnAt x i l)
+
+-- ---- the step
+
+unfoldable pub entered : Section → Event → Stepped
+entered s Begin = settled s (firstOf (beginTests (s .force))) (emptied true (s .refused))
+entered s (At x time act) = doneBy s x (planOf act x (s .force) (deskOf s x) time (nearestAt x (lineOf s)))
+entered s (Meet x sender form) =
+    settled s (firstOf (meetTests (s .force) (lineOf s) (findOf sender form (lineOf s)))) (withLine s (metAt x (findOf sender form (lineOf s)) (lineOf s)))
+entered s Resume = settled s (firstOf (resumeTests (s .force) (s .len))) (emptied false (s .refused))
+
+abbrev pub onDecoded : Section → Decoded → Stepped
+onDecoded s (Bad why) = refused s why
+onDecoded s (Says event) = entered s event
+
+-- "5 is tested first, then rising numbers"; it alters nothing
+abbrev pub ifMade : Bool → Section → Stepped → Stepped
+ifMade true s after = after
+ifMade false s after = record { answer = answer.Refused IllMade; section = s }
+
+unfoldable pub stepOf : Section → List ℕ → Stepped
+stepOf s bytes = ifMade (wellMade s) s (onDecoded s (decode bytes))

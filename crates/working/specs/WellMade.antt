@@ -1,0 +1,147 @@
+-- Document 01, "The section": when a section is well made, clause by clause.
+use Prim.Native.Nat.{ℕ, _+_}
+use mathlib.Core.Bool.{Bool, true, false, not, cond, _&&_, _||_}
+use mathlib.Core.List.{List, [], _∷_}
+use lib.Dec.{eqb, leb}
+use lib.ListN.{drop}
+use Rattle.working.specs.declared.Desk.{Desk}
+use Rattle.working.specs.declared.Interval.{Interval}
+use Rattle.working.specs.declared.Interval.the-variants.{Stopped, Since}
+use Rattle.working.specs.declared.Movement.{Movement}
+use Rattle.working.specs.declared.Movement.the-variants.{Open, Through, Return, Train}
+use Rattle.working.specs.declared.Section.{Section}
+use Rattle.working.specs.declared.Station.{Station}
+use Rattle.working.specs.declared.Station.the-variants.{A, B}
+use Rattle.working.specs.declared.Vehicle.{Vehicle}
+use Rattle.working.specs.Entries.{every}
+use Rattle.working.specs.Sections.{numberAt, lineOf, deskOf}
+
+-- ---- the vehicles
+
+-- a test holds of every vehicle of a line
+abbrev pub all : (Vehicle → Bool) → List Vehicle → Bool
+all p [] = true
+all p (v ∷ l) = p v && all p l
+
+-- a figure of each vehicle, added up
+abbrev pub sumOver : (Vehicle → ℕ) → List Vehicle → ℕ
+sumOver f [] = 0
+sumOver f (v ∷ l) = f v + sumOver f l
+
+-- v was sent by station number n
+abbrev pub isFrom : ℕ → Vehicle → Bool
+isFrom n v = eqb (v .sender) n
+
+-- OPEN or THROUGH
+abbrev pub isOpener : Movement → Bool
+isOpener (Open asked) = true
+isOpener Through = true
+isOpener (Return asked granted) = false
+isOpener (Train asked granted) = false
+
+-- "class is 1 to 5 on OPEN and RETURN, 1 on THROUGH, 0 on TRAIN; OPEN has asked 1 to 8 and granted 0, THROUGH both 0"; else asked and granted are at most 8
+abbrev pub movementTests : Movement → ℕ → List Bool
+movementTests (Open asked) class = leb 1 class ∷ leb class 5 ∷ leb 1 asked ∷ leb asked 8 ∷ []
+movementTests Through class = eqb class 1 ∷ []
+movementTests (Return asked granted) class = leb 1 class ∷ leb class 5 ∷ leb asked 8 ∷ leb granted 8 ∷ []
+movementTests (Train asked granted) class = eqb class 0 ∷ leb asked 8 ∷ leb granted 8 ∷ []
+
+abbrev pub vehicleTests : Vehicle → List Bool
+vehicleTests v =
+    (eqb (v .sender) 1 || eqb (v .sender) 2)
+    ∷ (eqb (v .heading) 1 || eqb (v .heading) 2)
+    ∷ (v .met || not (eqb (v .heading) (v .sender)))  -- "unmet vehicles head away from their sender"
+    ∷ (isOpener (v .movement) || not (v .met))  -- "RETURN and TRAIN are unmet"
+    ∷ every (movementTests (v .movement) (v .class))
+    ∷ []
+
+abbrev pub shaped : Vehicle → Bool
+shaped v = every (vehicleTests v)
+
+-- "A's vehicles all stand nearer A than B's"
+abbrev pub ordered : List Vehicle → Bool
+ordered [] = true
+ordered (v ∷ l) = cond (isFrom 1 v) (ordered l) (all (isFrom 2) (v ∷ l))
+
+-- "form numbers .. differ among one sender's vehicles"
+abbrev pub same : Vehicle → Vehicle → Bool
+same v w = eqb (v .sender) (w .sender) && eqb (v .form) (w .form)
+
+abbrev pub differ : List Vehicle → Bool
+differ [] = true
+differ (v ∷ l) = all (λ w. not (same v w)) l && differ l
+
+-- "unused places are zero"
+abbrev pub isBlankMovement : Movement → Bool
+isBlankMovement (Open asked) = eqb asked 0
+isBlankMovement Through = false
+isBlankMovement (Return asked granted) = false
+isBlankMovement (Train asked granted) = false
+
+abbrev pub isBlank : Vehicle → Bool
+isBlank v = every (isBlankMovement (v .movement) ∷ eqb (v .sender) 0 ∷ eqb (v .form) 0 ∷ eqb (v .heading) 0 ∷ not (v .met) ∷ eqb (v .class) 0 ∷ [])
+
+-- ---- a desk
+
+abbrev pub oneIf : Bool → ℕ
+oneIf true = 1
+oneIf false = 0
+
+-- how many vehicles of a line station number n sent
+abbrev pub countFrom : ℕ → List Vehicle → ℕ
+countFrom n l = sumOver (λ v. oneIf (isFrom n v)) l
+
+-- "form numbers are 1 to the desk's last"
+abbrev pub numbered : ℕ → ℕ → Vehicle → Bool
+numbered n last v = not (isFrom n v) || (leb 1 (v .form) && leb (v .form) last)
+
+-- "a running interval is not later than the clock"
+abbrev pub notLater : Interval → ℕ → Bool
+notLater Stopped clock = true
+notLater (Since minute) clock = leb minute clock
+
+-- the desk of station number n, beside the vehicles present
+abbrev pub deskTests : ℕ → Desk → List Vehicle → List Bool
+deskTests n d l =
+    leb (d .last) 9999
+    ∷ leb (d .sent) 12
+    ∷ leb (countFrom n l) (d .sent)  -- "each sent is at least that station's vehicles present"
+    ∷ leb (d .guest) 5
+    ∷ leb (d .asked) 8
+    ∷ leb (d .holds) 8
+    ∷ leb (d .owes) 8
+    ∷ notLater (d .interval) (d .clock)
+    ∷ all (numbered n (d .last)) l
+    ∷ []
+
+abbrev pub deskMade : Section → Station → Bool
+deskMade s x = every (deskTests (numberAt x) (deskOf s x) (lineOf s))
+
+-- ---- the section
+
+abbrev pub isStopped : Interval → Bool
+isStopped Stopped = true
+isStopped (Since minute) = false
+
+abbrev pub isFreshDesk : Desk → Bool
+isFreshDesk d = every (eqb (d .clock) 0 ∷ eqb (d .last) 0 ∷ eqb (d .sent) 0 ∷ isStopped (d .interval) ∷ not (d .out) ∷ eqb (d .guest) 0 ∷ eqb (d .asked) 0 ∷ eqb (d .holds) 0 ∷ eqb (d .owes) 0 ∷ [])
+
+-- "not in force, all but the count is as fresh"
+abbrev pub isIdle : Section → Bool
+isIdle s = every (eqb (s .len) 0 ∷ isFreshDesk (s .a) ∷ isFreshDesk (s .b) ∷ [])
+
+abbrev pub madeTests : Section → List Bool
+madeTests s =
+    leb (s .len) 24
+    ∷ all isBlank (drop (s .len) (s .vehicles))
+    ∷ all shaped (lineOf s)
+    ∷ ordered (lineOf s)
+    ∷ differ (lineOf s)
+    ∷ deskMade s A
+    ∷ deskMade s B
+    ∷ (s .force || isIdle s)
+    ∷ []
+
+-- "A section is well made if ranges hold" and so on
+unfoldable pub wellMade : Section → Bool
+wellMade s = every (madeTests s)

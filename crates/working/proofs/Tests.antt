@@ -1,38 +1,71 @@
--- What a list of tests says of each of its tests. Assumes nothing.
-use mathlib.Core.Path.{_≡_, refl, sym}
-use mathlib.Core.Bool.{Bool, true, false, not, _&&_, true≢false}
-use mathlib.Core.List.{List, [], _∷_}
+-- Tests: what a conjunction, a disjunction and a list of tests say of their parts.
+-- Assumes nothing.
+use Rattle.working.specs.Entries.{every}
+use Rattle.working.specs.Refusals.{firstOf, orElse}
 use Rattle.working.specs.declared.Refusal.{Refusal}
 use Rattle.working.specs.declared.Verdict.{Verdict}
 use Rattle.working.specs.declared.Verdict.the-variants.{Allowed}
-use Rattle.working.specs.Refusals.{orElse, firstOf}
-use Rattle.working.specs.Entries.{every}
+use mathlib.Core.Bool.{Bool, _&&_, _||_, false, true, true≢false}
+use mathlib.Core.List.{List, [], _∷_}
+use mathlib.Core.Path.{_∙_, _≡_, refl, sym}
 
--- both parts of a true conjunction are true
+pub false-true : false ≡ true → ⊥
+false-true e = true≢false (sym e)
+
+pub clash : {b : Bool} → b ≡ true → b ≡ false → ⊥
+clash p q = false-true (sym q ∙ p)
+
+-- ---- two tests
+
 pub both : (a b : Bool) → (a && b) ≡ true → (a ≡ true) × (b ≡ true)
-both true b h = (refl, h)
-both false b h = absurd (true≢false (sym h))
+both true b e = (refl, e)
+both false b e = absurd (false-true e)
 
--- where every test of a list holds, each does
+pub and : (a b : Bool) → a ≡ true → b ≡ true → (a && b) ≡ true
+and true b p q = q
+and false b p q = absurd (false-true p)
+
+pub or-left : (a b : Bool) → (a || b) ≡ false → a ≡ false
+or-left true b e = e
+or-left false b e = refl
+
+pub or-right : (a b : Bool) → (a || b) ≡ false → b ≡ false
+or-right true b e = absurd (false-true (sym e))
+or-right false b e = e
+
+-- the first fails, so the second holds
+pub or-second : (a b : Bool) → (a || b) ≡ true → a ≡ false → b ≡ true
+or-second true b e p = absurd (false-true (sym p))
+or-second false b e p = e
+
+pub or-intro : (a b : Bool) → b ≡ true → (a || b) ≡ true
+or-intro true b e = refl
+or-intro false b e = e
+
+-- ---- a list of tests that all hold
+
 abbrev pub Each : List Bool → Type 0
 Each [] = Unit {0}
 Each (t ∷ ts) = (t ≡ true) × Each ts
 
 pub each-holds : (ts : List Bool) → every ts ≡ true → Each ts
-each-holds [] h = tt
-each-holds (t ∷ ts) h = (both t (every ts) h .0, each-holds ts (both t (every ts) h .1))
+each-holds [] e = tt
+each-holds (t ∷ ts) e = let p = both t (every ts) e in (p .0, each-holds ts (p .1))
 
--- where a list of refusals allows, none of its tests holds
+pub every-holds : (ts : List Bool) → Each ts → every ts ≡ true
+every-holds [] e = refl
+every-holds (t ∷ ts) e = and t (every ts) (e .0) (every-holds ts (e .1))
+
+-- ---- a list of refusals of which none applies
+
 abbrev pub NoneHolds : List (Bool × Refusal) → Type 0
 NoneHolds [] = Unit {0}
 NoneHolds (t ∷ ts) = (t .0 ≡ false) × NoneHolds ts
 
 test-fails : (test : Bool) (why : Refusal) (later : Verdict) → orElse test why later ≡ Allowed → (test ≡ false) × (later ≡ Allowed)
-test-fails true why later h = (cc, cc)
-test-fails false why later h = (refl, h)
+test-fails true why later e = (cc, cc)
+test-fails false why later e = (refl, e)
 
 pub none-holds : (ts : List (Bool × Refusal)) → firstOf ts ≡ Allowed → NoneHolds ts
-none-holds [] h = tt
-none-holds (t ∷ ts) h =
-    let parts = test-fails (t .0) (t .1) (firstOf ts) h in
-    (parts .0, none-holds ts (parts .1))
+none-holds [] e = tt
+none-holds (t ∷ ts) e = let p = test-fails (t .0) (t .1) (firstOf ts) e in (p .0, none-holds ts (p .1))

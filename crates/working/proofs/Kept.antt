@@ -1,0 +1,115 @@
+-- Every step keeps the invariant: what it says of both stations' desks and of the vehicles between them.
+-- Each case of a step is one law of the invariant, over the station's own desk and the other's.
+-- Assumes nothing.
+use Prim.Native.Nat.{_≤_, suc, ℕ}
+use Rattle.working.proofs.Changes.{Change, Nearest, Sound, arrival, change, departure, emptying, meeting, nearest-of, refusal, sound-emptied, sound-step, well-arrive, well-at, well-depart}
+use Rattle.working.proofs.Invariant.{Half, Halves}
+use Rattle.working.proofs.Line.{number-other, number-same}
+use Rattle.working.proofs.Made.{Well, all-far, line-with, moves-far, moves-none, moves-own, moves-skip, movesOf, not-other, other-sender, shape-of, shape-rest}
+use Rattle.working.proofs.Meeting.{turn-length, turn-moves}
+use Rattle.working.proofs.Plans.{Departs}
+use Rattle.working.proofs.Receipts.{arrives-far, arrives-own}
+use Rattle.working.proofs.Tests.{both, each-holds}
+use Rattle.working.specs.Effects.{arriveDesk, otherDesk, ownDesk, vehicleFor}
+use Rattle.working.specs.Events.{Decoded, decode}
+use Rattle.working.specs.Reasons.{mayEnter}
+use Rattle.working.specs.Sections.{deskOf, emptied, freshDesk, insertAt, lineOf, numberAt, otherAt, withDesk, withLine}
+use Rattle.working.specs.Steps.{metAt, stepOf, turnAt}
+use Rattle.working.specs.WellMade.{isFrom, isOpener, movementTests}
+use Rattle.working.specs.declared.Act.{Act}
+use Rattle.working.specs.declared.Desk.{Desk}
+use Rattle.working.specs.declared.Movement.{Movement}
+use Rattle.working.specs.declared.Section.{Section}
+use Rattle.working.specs.declared.Speed.{Speed}
+use Rattle.working.specs.declared.Station.{Station}
+use Rattle.working.specs.declared.Station.the-variants.{A, B}
+use Rattle.working.specs.declared.Stepped.{Stepped}
+use Rattle.working.specs.declared.Vehicle.{Vehicle}
+use lib.Dec.{eqb}
+use lib.ListN.{length}
+use mathlib.Core.Bool.{Bool, _&&_, _||_, cond, false, not, true}
+use mathlib.Core.List.{List, []}
+use mathlib.Core.Path.{_≡_, refl}
+use native.Mathlib.Omega.{arith}
+
+-- the invariant seen from station x, whose desk is d, the other's o
+abbrev pub Between : Station → Desk → Desk → List Vehicle → Type 0
+Between x d o l = Halves d o (movesOf x l) (movesOf (otherAt x) l)
+
+pub record Good (s : Section) : Type 0 where
+  pub sound : Sound s
+  pub kept : Between A (s .a) (s .b) (lineOf s)
+
+pub kept-at : (x : Station) (s : Section) → Good s → Between x (deskOf s x) (deskOf s (otherAt x)) (lineOf s)
+kept-at A s g = g .kept
+kept-at B s g = record { own = g .kept .far; far = g .kept .own }
+
+-- the section with the vehicles l and x's desk e
+kept-with : (s : Section) (x : Station) (e : Desk) (l : List Vehicle) → Well x e (deskOf s (otherAt x)) l → Between x e (deskOf s (otherAt x)) l
+  → Between A (withDesk (withLine s l) x e .a) (withDesk (withLine s l) x e .b) (lineOf (withDesk (withLine s l) x e))
+kept-with s A e l w h = rw (line-with 24 l (w .fits)) h
+kept-with s B e l w h = rw (line-with 24 l (w .fits)) (record { own = h .far; far = h .own })
+
+kept-depart : (s : Section) (act : Act) (x : Station) (e : Desk) (m : Movement) (class forms : ℕ) (speed : Speed) → Good s
+  → Departs act x (deskOf s x) e m class forms speed → Between x e (deskOf s (otherAt x)) (insertAt x (vehicleFor x (e .last) m class) (lineOf s))
+kept-depart s act x e m class forms speed g p =
+    let v = vehicleFor x (e .last) m class in
+    rw (moves-own x v (lineOf s) (number-same x), moves-skip (otherAt x) x v (lineOf s) (number-other x))
+    (p .keeps (deskOf s (otherAt x)) (movesOf x (lineOf s)) (movesOf (otherAt x) (lineOf s)) (kept-at x s g))
+
+kept-arrive : (s : Section) (x : Station) (time : ℕ) (v : Vehicle) (l : List Vehicle) → Good s → lineOf s ≡ insertAt x v l → mayEnter x v ≡ true
+  → Between x (arriveDesk x (deskOf s x) time v) (deskOf s (otherAt x)) l
+kept-arrive s x time v l g e may = go (isFrom (numberAt x) v) refl
+  where
+    d : Desk
+    d = deskOf s x
+    o : Desk
+    o = deskOf s (otherAt x)
+    w : Well x d o (insertAt x v l)
+    w = rw e at (well-at s x (g .sound))
+    k : Between x d o (insertAt x v l)
+    k = rw e at (kept-at x s g)
+    go : (own : Bool) → isFrom (numberAt x) v ≡ own → Between x (cond own (ownDesk d time (v .movement)) (otherDesk d time (v .class) (v .movement))) o l
+    go true is =
+        let q : (isOpener (v .movement) && (not (v .met) || eqb (v .heading) (numberAt x))) ≡ true = rw is at may in
+        let opener = both (isOpener (v .movement)) (not (v .met) || eqb (v .heading) (numberAt x)) q .0 in
+        arrives-own d time (v .movement) opener (w .own .bounds) .1 o (movesOf x l) (movesOf (otherAt x) l)
+        (rw (moves-own x v l is, moves-skip (otherAt x) x v l (not-other x v is)) at k)
+    go false is =
+        let shape = shape-rest x d o d v l w .0 in
+        let moves = each-holds (movementTests (v .movement) (v .class)) (shape-of v shape .moves) in
+        let none-own = moves-none x l (all-far x d o d v l w is) in
+        rw none-own
+        (arrives-far d time (v .class) (v .movement) moves (w .own .bounds) .1 o (movesOf (otherAt x) l)
+        (rw (moves-skip x x v l is, none-own, moves-far x v l (other-sender x v shape is)) at k))
+
+-- nothing in the section, and nothing on the desks
+kept-emptied : Between A freshDesk freshDesk []
+kept-emptied = record { own = half; far = half }
+  where
+    half : Half freshDesk freshDesk [] []
+    half = record { sum = refl; outs = refl; guests = λ k. absurd (omega arith); holding = λ k. absurd (omega arith); row = refl; clear = refl }
+
+kept-change : (s : Section) (e : Decoded) (r : Stepped) → Good s → Change s e r → Between A (r .section .a) (r .section .b) (lineOf (r .section))
+kept-change s e r g (refusal k why) = g .kept
+kept-change s e r g (emptying k force n) = kept-emptied
+kept-change s e r g (departure x time act {d} {m} {class} {forms} {speed} f p) =
+    kept-with s x d (insertAt x (vehicleFor x (d .last) m class) (lineOf s)) (well-depart s act x d m class forms speed (g .sound) p) (kept-depart s act x d m class forms speed g p)
+kept-change s e r g (arrival x time y n f named may) =
+    let q = nearest-of y n x (lineOf s) named in
+    let enters : mayEnter x (q .vehicle) ≡ true = rw (q .near) at may in
+    rw (q .near, q .rest)
+    (kept-with s x (arriveDesk x (deskOf s x) time (q .vehicle)) (q .others)
+    (well-arrive s x time (q .vehicle) (q .others) (g .sound) (q .line) enters) (kept-arrive s x time (q .vehicle) (q .others) g (q .line) enters))
+kept-change s e r g (meeting x y n i f h) =
+    let fits : length (metAt x i (lineOf s)) ≤ 24 = omega (arith, turn-length x (suc i) (turnAt x i (lineOf s)), turn-length x i (lineOf s), well-at s A (g .sound) .fits) in
+    rw (line-with 24 (metAt x i (lineOf s)) fits, turn-moves x A (suc i) (turnAt x i (lineOf s)), turn-moves x B (suc i) (turnAt x i (lineOf s)), turn-moves x A i (lineOf s), turn-moves x B i (lineOf s)) (g .kept)
+
+pub good-emptied : (force : Bool) (n : ℕ) → Good (emptied force n)
+good-emptied force n = record { sound = sound-emptied force n; kept = kept-emptied }
+
+pub good-step : (s : Section) (bytes : List ℕ) → Good s → Good (stepOf s bytes .section)
+good-step s bytes g = record {
+  sound = sound-step s bytes (g .sound);
+  kept = kept-change s (decode bytes) (stepOf s bytes) g (change s bytes (g .sound));
+}

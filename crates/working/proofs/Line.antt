@@ -1,0 +1,149 @@
+-- The two ends of the line: every law is stated of `insertAt x v l`, so that it serves both stations, and a departure (forwards) and a receipt (backwards).
+use Prim.Native.Nat.{_+_, _-_, _<_, suc, ℕ}
+use Rattle.working.proofs.Tests.{both, false-true}
+use Rattle.working.specs.Sections.{insertAt, nearestAt, numberAt, otherAt, removeAt, unused}
+use Rattle.working.specs.WellMade.{all, differ, isFrom, ordered, same, sumOver}
+use Rattle.working.specs.declared.Station.{Station}
+use Rattle.working.specs.declared.Station.the-variants.{A, B}
+use Rattle.working.specs.declared.Vehicle.{Vehicle}
+use borrow.Author.Tests.{eq-eqb, eqb-false, eqb-true, ne-eqb}
+use lib.Dec.{eqb}
+use lib.ListN.{getD, length, length-append, take}
+use mathlib.Core.Bool.{Bool, _&&_, cond, false, not, true}
+use mathlib.Core.List.{List, [], _++_, _∷_}
+use mathlib.Core.Path.{_∙_, _≡_, ap, ap₂, refl, sym}
+use native.Mathlib.Omega.{arith}
+
+-- ---- the stations' numbers
+
+pub number-same : (x : Station) → eqb (numberAt x) (numberAt x) ≡ true
+number-same A = refl
+number-same B = refl
+
+pub number-other : (x : Station) → eqb (numberAt x) (numberAt (otherAt x)) ≡ false
+number-other A = refl
+number-other B = refl
+
+pub other-number : (x : Station) → eqb (numberAt (otherAt x)) (numberAt x) ≡ false
+other-number A = refl
+other-number B = refl
+
+-- ---- a vehicle at an end
+
+pub insert-length : (x : Station) (v : Vehicle) (l : List Vehicle) → length (insertAt x v l) ≡ suc (length l)
+insert-length A v l = refl
+insert-length B v l = omega (arith, length-append l (v ∷ []))
+
+last-of : (l : List Vehicle) (v : Vehicle) → getD (l ++ v ∷ []) (length (l ++ v ∷ []) - 1) unused ≡ v
+last-of l v = rw (at l v) (end l v)
+  where
+    at : (l : List Vehicle) (v : Vehicle) → length (l ++ v ∷ []) - 1 ≡ length l
+    at l v = omega (arith, length-append l (v ∷ []))
+    end : (l : List Vehicle) (v : Vehicle) → getD (l ++ v ∷ []) (length l) unused ≡ v
+    end [] v = refl
+    end (u ∷ l) v = end l v
+
+init-of : (l : List Vehicle) (v : Vehicle) → take (length (l ++ v ∷ []) - 1) (l ++ v ∷ []) ≡ l
+init-of l v = rw (at l v) (end l v)
+  where
+    at : (l : List Vehicle) (v : Vehicle) → length (l ++ v ∷ []) - 1 ≡ length l
+    at l v = omega (arith, length-append l (v ∷ []))
+    end : (l : List Vehicle) (v : Vehicle) → take (length l) (l ++ v ∷ []) ≡ l
+    end [] v = refl
+    end (u ∷ l) v = ap (λ (t : List Vehicle). u ∷ t) (end l v)
+
+pub nearest-insert : (x : Station) (v : Vehicle) (l : List Vehicle) → nearestAt x (insertAt x v l) ≡ v
+nearest-insert A v l = refl
+nearest-insert B v l = last-of l v
+
+pub remove-insert : (x : Station) (v : Vehicle) (l : List Vehicle) → removeAt x (insertAt x v l) ≡ l
+remove-insert A v l = refl
+remove-insert B v l = init-of l v
+
+-- a line with a vehicle is an insertion at either end
+split-last : (v : Vehicle) (l : List Vehicle) → (w : Vehicle) × (t : List Vehicle) × (v ∷ l ≡ t ++ w ∷ [])
+split-last v [] = (v, [], refl)
+split-last v (u ∷ l) = let r = split-last u l in (r .0, v ∷ r .1, ap (λ (t : List Vehicle). v ∷ t) (r .2))
+
+pub split-end : (x : Station) (l : List Vehicle) → 0 < length l → (w : Vehicle) × (t : List Vehicle) × (l ≡ insertAt x w t)
+split-end x [] h = absurd (omega arith)
+split-end A (v ∷ l) h = (v, l, refl)
+split-end B (v ∷ l) h = split-last v l
+
+pub insert-comm : (x : Station) (v w : Vehicle) (l : List Vehicle) → insertAt x v (insertAt (otherAt x) w l) ≡ insertAt (otherAt x) w (insertAt x v l)
+insert-comm A v w l = refl
+insert-comm B v w l = refl
+
+-- ---- predicates on the line
+
+pub all-insert : (p : Vehicle → Bool) (x : Station) (v : Vehicle) (l : List Vehicle) → all p (insertAt x v l) ≡ (p v && all p l)
+all-insert p A v l = refl
+all-insert p B v [] = refl
+all-insert p B v (u ∷ l) = rw (all-insert p B v l) (turn (p u) (p v) (all p l))
+  where
+    turn : (a b c : Bool) → (a && (b && c)) ≡ (b && (a && c))
+    turn true b c = refl
+    turn false true c = refl
+    turn false false c = refl
+
+pub sum-insert : (f : Vehicle → ℕ) (x : Station) (v : Vehicle) (l : List Vehicle) → sumOver f (insertAt x v l) ≡ f v + sumOver f l
+sum-insert f A v l = refl
+sum-insert f B v [] = refl
+sum-insert f B v (u ∷ l) = omega (arith, sum-insert f B v l)
+
+eqb-sym : (m n : ℕ) → eqb m n ≡ eqb n m
+eqb-sym m n = go (eqb n m) refl
+  where
+    go : (b : Bool) → eqb n m ≡ b → eqb m n ≡ b
+    go true e = eq-eqb m n (sym (eqb-true n m e))
+    go false e = ne-eqb m n (λ q. eqb-false n m e (sym q))
+
+same-sym : (v w : Vehicle) → same v w ≡ same w v
+same-sym v w = rw (eqb-sym (v .sender) (w .sender), eqb-sym (v .form) (w .form))
+
+pub differ-insert : (x : Station) (v : Vehicle) (l : List Vehicle) → differ (insertAt x v l) ≡ (all (λ w. not (same v w)) l && differ l)
+differ-insert A v l = refl
+differ-insert B v [] = refl
+differ-insert B v (u ∷ l) =
+    ap₂ _&&_ (all-insert (λ w. not (same u w)) B v l ∙ ap (λ (b : Bool). not b && all (λ w. not (same u w)) l) (same-sym u v)) (differ-insert B v l)
+    ∙ shuffle (not (same v u)) (all (λ w. not (same u w)) l) (all (λ w. not (same v w)) l) (differ l)
+  where
+    shuffle : (a b c d : Bool) → ((a && b) && (c && d)) ≡ ((a && c) && (b && d))
+    shuffle true true c d = refl
+    shuffle true false true d = refl
+    shuffle true false false d = refl
+    shuffle false b c d = refl
+
+pub ordered-own : (x : Station) (v : Vehicle) (l : List Vehicle) → v .sender ≡ numberAt x → ordered (insertAt x v l) ≡ ordered l
+ordered-own A v l e = rw (eq-eqb (v .sender) 1 e)
+ordered-own B v [] e = rw e
+ordered-own B v (u ∷ l) e =
+    ap₂ (cond (isFrom 1 u)) (ordered-own B v l e)
+    (ap (λ (b : Bool). isFrom 2 u && b) (all-insert (isFrom 2) B v l ∙ rw (eq-eqb (v .sender) 2 e)))
+
+from-two-ordered : (l : List Vehicle) → all (isFrom 2) l ≡ true → ordered l ≡ true
+from-two-ordered [] e = refl
+from-two-ordered (v ∷ l) e =
+    let p = both (isFrom 2 v) (all (isFrom 2) l) e in
+    let q : isFrom 1 v ≡ false = rw (eqb-true (v .sender) 2 (p .0)) in
+    rw (q, e)
+
+-- behind a vehicle of the other station there is only the other station's
+pub ordered-far : (x : Station) (v : Vehicle) (l : List Vehicle) → isFrom (numberAt x) v ≡ false → ordered (insertAt x v l) ≡ true
+  → (ordered l ≡ true) × (all (isFrom (numberAt (otherAt x))) l ≡ true)
+ordered-far A v l e h =
+    let q : (isFrom 2 v && all (isFrom 2) l) ≡ true = rw e at h in
+    let r = both (isFrom 2 v) (all (isFrom 2) l) q .1 in
+    (from-two-ordered l r, r)
+ordered-far B v [] e h = (refl, refl)
+ordered-far B v (u ∷ l) e h = go (λ k. ordered-far B v l e k) (isFrom 1 u) refl
+  where
+    go : (ordered (l ++ v ∷ []) ≡ true → (ordered l ≡ true) × (all (isFrom 1) l ≡ true))
+      → (b : Bool) → isFrom 1 u ≡ b → (ordered (u ∷ l) ≡ true) × (all (isFrom 1) (u ∷ l) ≡ true)
+    go more true p =
+        let r = more (rw p at h) in
+        (rw p (r .0), rw p (r .1))
+    go more false p =
+        let q : (isFrom 2 u && all (isFrom 2) (l ++ v ∷ [])) ≡ true = rw p at h in
+        let r : (isFrom 2 v && all (isFrom 2) l) ≡ true = rw (all-insert (isFrom 2) B v l) at (both (isFrom 2 u) (all (isFrom 2) (l ++ v ∷ [])) q .1) in
+        absurd (false-true (sym e ∙ both (isFrom 2 v) (all (isFrom 2) l) r .0))

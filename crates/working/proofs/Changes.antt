@@ -61,16 +61,16 @@ pub data Change (s : Section) : Decoded → Stepped → Type 0 where
   refusal : (e : Decoded) (why : Refusal) → Change s e (refused s why)
   emptying : (e : Decoded) (force : Bool) → departureBy e (Accepted 0 0 NoSpeed) ≡ Option.none → Change s e (accepted (emptied force (s .refused)))
   departure : (x : Station) (time : ℕ) (act : Act) {d : Desk} {m : Movement} {class forms : ℕ} {speed : Speed} → s .force ≡ true
-    → Departs act x (deskOf s x) d m class forms speed
-    → Change s (Says (At x time act)) (doneBy s x (Depart d m class forms speed))
+      → Departs act x (deskOf s x) d m class forms speed
+      → Change s (Says (At x time act)) (doneBy s x (Depart d m class forms speed))
   arrival : (x : Station) (time : ℕ) (y : Station) (n : ℕ) → s .force ≡ true
-    → isNamed y n (nearestAt x (lineOf s)) ≡ true → mayEnter x (nearestAt x (lineOf s)) ≡ true
-    → Change s (Says (At x time (Receives y n))) (doneBy s x (Arrive (arriveDesk x (deskOf s x) time (nearestAt x (lineOf s)))))
+      → isNamed y n (nearestAt x (lineOf s)) ≡ true → mayEnter x (nearestAt x (lineOf s)) ≡ true
+      → Change s (Says (At x time (Receives y n))) (doneBy s x (Arrive (arriveDesk x (deskOf s x) time (nearestAt x (lineOf s)))))
   meeting : (x y : Station) (n i : ℕ) → s .force ≡ true → mayMeet (lineOf s) i ≡ true
-    → Change s (Says (Meet x y n)) (accepted (withLine s (metAt x i (lineOf s))))
+      → Change s (Says (Meet x y n)) (accepted (withLine s (metAt x i (lineOf s))))
 
 settled-elim : (s : Section) (P : Stepped → Type 0) (tests : List (Bool × Refusal)) (t : Section)
-  → ((why : Refusal) → P (refused s why)) → (NoneHolds tests → P (accepted t)) → P (settled s (firstOf tests) t)
+    → ((why : Refusal) → P (refused s why)) → (NoneHolds tests → P (accepted t)) → P (settled s (firstOf tests) t)
 settled-elim s P tests t refuse ok = go (firstOf tests) refl
   where
     go : (v : Verdict) → firstOf tests ≡ v → P (settled s v t)
@@ -78,7 +78,7 @@ settled-elim s P tests t refuse ok = go (firstOf tests) refl
     go Allowed e = ok (none-holds tests e)
 
 fated : (s : Section) (x : Station) (time : ℕ) (act : Act) (p : Plan) → Fate act x (s .force) (deskOf s x) time (nearestAt x (lineOf s)) p
-  → Change s (Says (At x time act)) (doneBy s x p)
+    → Change s (Says (At x time act)) (doneBy s x p)
 fated s x time act p (refuses why) = refusal (Says (At x time act)) why
 fated s x time act p (departs f q) = departure x time act f q
 fated s x time act p (arrives y n e f named may) = rw e (arrival x time y n f named may)
@@ -124,7 +124,7 @@ shape-for A n m class h = and (isOpener m || true) _ (or-intro (isOpener m) true
 shape-for B n m class h = and (isOpener m || true) _ (or-intro (isOpener m) true refl) (rw h)
 
 pub well-depart : (s : Section) (act : Act) (x : Station) (e : Desk) (m : Movement) (class forms : ℕ) (speed : Speed) → Sound s
-  → Departs act x (deskOf s x) e m class forms speed → Well x e (deskOf s (otherAt x)) (insertAt x (vehicleFor x (e .last) m class) (lineOf s))
+    → Departs act x (deskOf s x) e m class forms speed → Well x e (deskOf s (otherAt x)) (insertAt x (vehicleFor x (e .last) m class) (lineOf s))
 well-depart s act x e m class forms speed g p =
     well-insert x (deskOf s x) (deskOf s (otherAt x)) e (vehicleFor x (e .last) m class) (lineOf s) (well-at s x g)
     refl (p .last) (shape-for x (e .last) m class (p .shape)) (p .last) (p .sent) (p .room) (p .unused) (p .bounds)
@@ -139,15 +139,18 @@ named-there B n B [] h = absurd (false-true h)
 
 -- a receipt of v, which stands at x's end before the vehicles l
 pub well-arrive : (s : Section) (x : Station) (time : ℕ) (v : Vehicle) (l : List Vehicle) → Sound s → lineOf s ≡ insertAt x v l → mayEnter x v ≡ true
-  → Well x (arriveDesk x (deskOf s x) time v) (deskOf s (otherAt x)) l
+    → Well x (arriveDesk x (deskOf s x) time v) (deskOf s (otherAt x)) l
 well-arrive s x time v l g e may = go (isFrom (numberAt x) v) refl
   where
     d : Desk
     d = deskOf s x
+
     o : Desk
     o = deskOf s (otherAt x)
+
     w : Well x d o (insertAt x v l)
     w = rw e at (well-at s x g)
+
     go : (own : Bool) → isFrom (numberAt x) v ≡ own → Well x (cond own (ownDesk d time (v .movement)) (otherDesk d time (v .class) (v .movement))) o l
     go true is =
         let q : (isOpener (v .movement) && (not (v .met) || eqb (v .heading) (numberAt x))) ≡ true = rw is at may in
@@ -177,8 +180,8 @@ nearest-of y n x l named =
     }
 
 sound-arrive : (s : Section) (x : Station) (time : ℕ) (y : Station) (n : ℕ) → Sound s → s .force ≡ true
-  → isNamed y n (nearestAt x (lineOf s)) ≡ true → mayEnter x (nearestAt x (lineOf s)) ≡ true
-  → Sound (withDesk (withLine s (removeAt x (lineOf s))) x (arriveDesk x (deskOf s x) time (nearestAt x (lineOf s))))
+    → isNamed y n (nearestAt x (lineOf s)) ≡ true → mayEnter x (nearestAt x (lineOf s)) ≡ true
+    → Sound (withDesk (withLine s (removeAt x (lineOf s))) x (arriveDesk x (deskOf s x) time (nearestAt x (lineOf s))))
 sound-arrive s x time y n g f named may =
     let q = nearest-of y n x (lineOf s) named in
     rw (q .near, q .rest)

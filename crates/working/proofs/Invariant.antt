@@ -2,8 +2,9 @@
 use Prim.Native.Nat.{_+_, _-_, _<_, _≤_, ℕ}
 use Rattle.working.proofs.Tests.{and, both, clash, false-true, or-intro, or-left, or-right, or-second}
 use Rattle.working.specs.Demand3.{grantedIn}
+use Rattle.working.specs.Departures.{isTrain, kindIn}
 use Rattle.working.specs.Effects.{ifAny}
-use Rattle.working.specs.WellMade.{isOpener}
+use Rattle.working.specs.WellMade.{isOpener, oneIf}
 use Rattle.working.specs.declared.Desk.{Desk}
 use Rattle.working.specs.declared.Movement.{Movement}
 use Rattle.working.specs.declared.Movement.the-variants.{Open, Return, Through, Train}
@@ -37,16 +38,10 @@ isReturn (Return a g) = true
 isReturn (Train a g) = false
 
 abbrev pub isTrainM : Movement → Bool
-isTrainM (Open a) = false
-isTrainM Through = false
-isTrainM (Return a g) = false
-isTrainM (Train a g) = true
+isTrainM m = isTrain (kindIn m)
 
 abbrev pub trainOne : Movement → ℕ
-trainOne (Open a) = 0
-trainOne Through = 0
-trainOne (Return a g) = 0
-trainOne (Train a g) = 1
+trainOne m = oneIf (isTrainM m)
 
 abbrev pub fast : Movement → Bool
 fast m = not (isOpener m)
@@ -260,9 +255,9 @@ far-away m (n ∷ t) mine e = refl
 
 -- an OPEN or a THROUGH
 pub kept-opener : (d o e : Desk) (m : Movement) (mine theirs : List Movement) → Halves d o mine theirs
-  → isOpener m ≡ true → d .out ≡ false → d .holds ≡ 0 → d .owes ≡ 0 → d .guest ≡ 0
-  → e .out ≡ isOpen m → e .holds ≡ 0 → e .owes ≡ 0 → e .guest ≡ 0
-  → Halves e o (m ∷ mine) theirs
+    → isOpener m ≡ true → d .out ≡ false → d .holds ≡ 0 → d .owes ≡ 0 → d .guest ≡ 0
+    → e .out ≡ isOpen m → e .holds ≡ 0 → e .owes ≡ 0 → e .guest ≡ 0
+    → Halves e o (m ∷ mine) theirs
 kept-opener d o e m mine theirs h op out holds owes guest out′ holds′ owes′ guest′ =
     let none-out : (ltb 0 (o .guest) || awayAt mine theirs) ≡ false = sym (h .own .outs) ∙ out in
     let no-their-guest = or-left (ltb 0 (o .guest)) (awayAt mine theirs) none-out in
@@ -297,9 +292,9 @@ kept-opener d o e m mine theirs h op out holds owes guest out′ holds′ owes�
 
 -- a RETURN
 pub kept-return : (d o e : Desk) (a g : ℕ) (mine theirs : List Movement) → Halves d o mine theirs
-  → 0 < d .guest → d .holds ≡ 0
-  → e .out ≡ d .out → e .holds ≡ 0 → e .owes ≡ ifAny g (d .owes) → e .guest ≡ 0
-  → Halves e o (Return a g ∷ mine) theirs
+    → 0 < d .guest → d .holds ≡ 0
+    → e .out ≡ d .out → e .holds ≡ 0 → e .owes ≡ ifAny g (d .owes) → e .guest ≡ 0
+    → Halves e o (Return a g ∷ mine) theirs
 kept-return d o e a g mine theirs h guest holds out′ holds′ owes′ guest′ =
     let q = h .own .guests guest in
     let s : d .owes ≡ o .holds + trains [] + granted [] = rw (q .0, q .1) at (h .own .sum) in
@@ -329,9 +324,9 @@ kept-return d o e a g mine theirs h guest holds out′ holds′ owes′ guest′
 
 -- a TRAIN
 pub kept-train : (d o e : Desk) (a g : ℕ) (mine theirs : List Movement) → Halves d o mine theirs
-  → 0 < d .holds → (0 < g → d .holds ≤ 1)
-  → e .out ≡ d .out → e .holds ≡ d .holds - 1 → e .owes ≡ ifAny g (d .owes) → e .guest ≡ d .guest
-  → Halves e o (Train a g ∷ mine) theirs
+    → 0 < d .holds → (0 < g → d .holds ≤ 1)
+    → e .out ≡ d .out → e .holds ≡ d .holds - 1 → e .owes ≡ ifAny g (d .owes) → e .guest ≡ d .guest
+    → Halves e o (Train a g ∷ mine) theirs
 kept-train d o e a g mine theirs h holds last out′ holds′ owes′ guest′ =
     let q = h .own .holding holds in
     let their-guest : o .guest ≡ 0 = zero-unless (o .guest) (λ p. omega (arith, h .far .guests p, h .far .sum)) in
@@ -365,9 +360,9 @@ kept-train d o e a g mine theirs h holds last out′ holds′ owes′ guest′ =
 
 -- the station's own OPEN or THROUGH
 pub kept-own : (d o e : Desk) (m : Movement) (mine theirs : List Movement) → Halves d o (m ∷ mine) theirs
-  → isOpener m ≡ true
-  → e .out ≡ cond (isOpen m) false (d .out) → e .holds ≡ d .holds → e .owes ≡ d .owes → e .guest ≡ d .guest
-  → Halves e o mine theirs
+    → isOpener m ≡ true
+    → e .out ≡ cond (isOpen m) false (d .out) → e .holds ≡ d .holds → e .owes ≡ d .owes → e .guest ≡ d .guest
+    → Halves e o mine theirs
 kept-own d o e m mine theirs h op out′ holds′ owes′ guest′ =
     let k = opener m op in
     let own-guest : d .guest ≡ 0 = zero-unless (d .guest) (λ p. cons-nil (h .own .guests p .0)) in
@@ -415,8 +410,8 @@ module _ (d o e : Desk) (m : Movement) (l : List Movement) (h : Halves d o [] (l
 
   -- it goes on, or comes with a grant g
   pub kept-far : isOpen m ≡ false
-    → e .out ≡ cond (isReturn m) false (d .out) → e .holds ≡ grantedIn m → e .owes ≡ d .owes - trainOne m → e .guest ≡ d .guest
-    → Halves e o [] l
+      → e .out ≡ cond (isReturn m) false (d .out) → e .holds ≡ grantedIn m → e .owes ≡ d .owes - trainOne m → e .guest ≡ d .guest
+      → Halves e o [] l
   kept-far n out′ holds′ owes′ guest′ =
       let g = far-guests in
       let last = row-last l m (row-snoc l m (h .far .row) .1) in
@@ -445,12 +440,14 @@ module _ (d o e : Desk) (m : Movement) (l : List Movement) (h : Halves d o [] (l
       out-now : (b : Bool) → isReturn m ≡ b → cond b false (d .out) ≡ false
       out-now true p = refl
       out-now false p = h .own .outs ∙ ap₂ _||_ (zero-test (o .guest) (far-guests .1)) (last-snoc l m ∙ p)
+
       carries : 0 < e .holds → e .holds ≡ grantedIn m → modest m ≡ false
       carries k q = not-both (not (isOpen m)) (ne-eqb (grantedIn m) 0 (λ z. omega arith))
         where
           not-both : (b : Bool) {c : Bool} → c ≡ false → (b && c) ≡ false
           not-both true p = p
           not-both false p = refl
+
       paid : l ≡ [] → 0 < e .holds → e .holds ≡ grantedIn m → e .owes ≡ d .owes - trainOne m → e .owes ≡ 0
       paid nil k q w =
           let s : d .owes ≡ o .holds + (trains l + trainOne m) + 0 = rw (weigh-snoc trainOne l m) at (h .own .sum) in
@@ -461,8 +458,8 @@ module _ (d o e : Desk) (m : Movement) (l : List Movement) (h : Halves d o [] (l
 
   -- an OPEN becomes a guest
   pub kept-guest : isOpen m ≡ true → trainOne m ≡ 0 → grantedIn m ≡ 0 → isTrainM m ≡ false → isReturn m ≡ false
-    → e .out ≡ d .out → e .holds ≡ d .holds → e .owes ≡ d .owes → 0 < e .guest
-    → Halves e o [] l
+      → e .out ≡ d .out → e .holds ≡ d .holds → e .owes ≡ d .owes → 0 < e .guest
+      → Halves e o [] l
   kept-guest n train grants not-train not-return out′ holds′ owes′ guest′ =
       let g = far-guests in
       let nil : l ≡ [] = alone l m (h .far .row) (rw n) in

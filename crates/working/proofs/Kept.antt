@@ -46,29 +46,33 @@ kept-at B s g = record { own = g .kept .far; far = g .kept .own }
 
 -- the section with the vehicles l and x's desk e
 kept-with : (s : Section) (x : Station) (e : Desk) (l : List Vehicle) → Well x e (deskOf s (otherAt x)) l → Between x e (deskOf s (otherAt x)) l
-  → Between A (withDesk (withLine s l) x e .a) (withDesk (withLine s l) x e .b) (lineOf (withDesk (withLine s l) x e))
+    → Between A (withDesk (withLine s l) x e .a) (withDesk (withLine s l) x e .b) (lineOf (withDesk (withLine s l) x e))
 kept-with s A e l w h = rw (line-with 24 l (w .fits)) h
 kept-with s B e l w h = rw (line-with 24 l (w .fits)) (record { own = h .far; far = h .own })
 
 kept-depart : (s : Section) (act : Act) (x : Station) (e : Desk) (m : Movement) (class forms : ℕ) (speed : Speed) → Good s
-  → Departs act x (deskOf s x) e m class forms speed → Between x e (deskOf s (otherAt x)) (insertAt x (vehicleFor x (e .last) m class) (lineOf s))
+    → Departs act x (deskOf s x) e m class forms speed → Between x e (deskOf s (otherAt x)) (insertAt x (vehicleFor x (e .last) m class) (lineOf s))
 kept-depart s act x e m class forms speed g p =
     let v = vehicleFor x (e .last) m class in
     rw (moves-own x v (lineOf s) (number-same x), moves-skip (otherAt x) x v (lineOf s) (number-other x))
     (p .keeps (deskOf s (otherAt x)) (movesOf x (lineOf s)) (movesOf (otherAt x) (lineOf s)) (kept-at x s g))
 
 kept-arrive : (s : Section) (x : Station) (time : ℕ) (v : Vehicle) (l : List Vehicle) → Good s → lineOf s ≡ insertAt x v l → mayEnter x v ≡ true
-  → Between x (arriveDesk x (deskOf s x) time v) (deskOf s (otherAt x)) l
+    → Between x (arriveDesk x (deskOf s x) time v) (deskOf s (otherAt x)) l
 kept-arrive s x time v l g e may = go (isFrom (numberAt x) v) refl
   where
     d : Desk
     d = deskOf s x
+
     o : Desk
     o = deskOf s (otherAt x)
+
     w : Well x d o (insertAt x v l)
     w = rw e at (well-at s x (g .sound))
+
     k : Between x d o (insertAt x v l)
     k = rw e at (kept-at x s g)
+
     go : (own : Bool) → isFrom (numberAt x) v ≡ own → Between x (cond own (ownDesk d time (v .movement)) (otherDesk d time (v .class) (v .movement))) o l
     go true is =
         let q : (isOpener (v .movement) && (not (v .met) || eqb (v .heading) (numberAt x))) ≡ true = rw is at may in

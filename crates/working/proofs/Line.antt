@@ -39,6 +39,7 @@ last-of l v = rw (at l v) (end l v)
   where
     at : (l : List Vehicle) (v : Vehicle) → length (l ++ v ∷ []) - 1 ≡ length l
     at l v = omega (arith, length-append l (v ∷ []))
+
     end : (l : List Vehicle) (v : Vehicle) → getD (l ++ v ∷ []) (length l) unused ≡ v
     end [] v = refl
     end (u ∷ l) v = end l v
@@ -48,6 +49,7 @@ init-of l v = rw (at l v) (end l v)
   where
     at : (l : List Vehicle) (v : Vehicle) → length (l ++ v ∷ []) - 1 ≡ length l
     at l v = omega (arith, length-append l (v ∷ []))
+
     end : (l : List Vehicle) (v : Vehicle) → take (length l) (l ++ v ∷ []) ≡ l
     end [] v = refl
     end (u ∷ l) v = ap (λ (t : List Vehicle). u ∷ t) (end l v)
@@ -69,6 +71,12 @@ pub split-end : (x : Station) (l : List Vehicle) → 0 < length l → (w : Vehic
 split-end x [] h = absurd (omega arith)
 split-end A (v ∷ l) h = (v, l, refl)
 split-end B (v ∷ l) h = split-last v l
+
+pub length-remove : (x : Station) (l : List Vehicle) → 0 < length l → suc (length (removeAt x l)) ≡ length l
+length-remove x l h =
+    let q = split-end x l h in
+    let rest : removeAt x l ≡ q .1 = ap (removeAt x) (q .2) ∙ remove-insert x (q .0) (q .1) in
+    omega (arith, ap length rest, ap length (q .2), insert-length x (q .0) (q .1))
 
 pub insert-comm : (x : Station) (v w : Vehicle) (l : List Vehicle) → insertAt x v (insertAt (otherAt x) w l) ≡ insertAt (otherAt x) w (insertAt x v l)
 insert-comm A v w l = refl
@@ -130,7 +138,7 @@ from-two-ordered (v ∷ l) e =
 
 -- behind a vehicle of the other station there is only the other station's
 pub ordered-far : (x : Station) (v : Vehicle) (l : List Vehicle) → isFrom (numberAt x) v ≡ false → ordered (insertAt x v l) ≡ true
-  → (ordered l ≡ true) × (all (isFrom (numberAt (otherAt x))) l ≡ true)
+    → (ordered l ≡ true) × (all (isFrom (numberAt (otherAt x))) l ≡ true)
 ordered-far A v l e h =
     let q : (isFrom 2 v && all (isFrom 2) l) ≡ true = rw e at h in
     let r = both (isFrom 2 v) (all (isFrom 2) l) q .1 in
@@ -139,7 +147,7 @@ ordered-far B v [] e h = (refl, refl)
 ordered-far B v (u ∷ l) e h = go (λ k. ordered-far B v l e k) (isFrom 1 u) refl
   where
     go : (ordered (l ++ v ∷ []) ≡ true → (ordered l ≡ true) × (all (isFrom 1) l ≡ true))
-      → (b : Bool) → isFrom 1 u ≡ b → (ordered (u ∷ l) ≡ true) × (all (isFrom 1) (u ∷ l) ≡ true)
+        → (b : Bool) → isFrom 1 u ≡ b → (ordered (u ∷ l) ≡ true) × (all (isFrom 1) (u ∷ l) ≡ true)
     go more true p =
         let r = more (rw p at h) in
         (rw p (r .0), rw p (r .1))

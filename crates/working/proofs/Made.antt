@@ -193,9 +193,9 @@ far-made n o x v l skip m =
 
 -- v, with the next form number, leaves x
 pub well-insert : (x : Station) (d o e : Desk) (v : Vehicle) (l : List Vehicle) → Well x d o l
-  → v .sender ≡ numberAt x → v .form ≡ d .last + 1 → shaped v ≡ true
-  → e .last ≡ d .last + 1 → e .sent ≡ d .sent + 1 → d .sent < 12 → d .last < 9999 → Bounds e
-  → Well x e o (insertAt x v l)
+    → v .sender ≡ numberAt x → v .form ≡ d .last + 1 → shaped v ≡ true
+    → e .last ≡ d .last + 1 → e .sent ≡ d .sent + 1 → d .sent < 12 → d .last < 9999 → Bounds e
+    → Well x e o (insertAt x v l)
 well-insert x d o e v l w from form shape last sent room unused b =
     let is : isFrom (numberAt x) v ≡ true = eq-eqb (v .sender) (numberAt x) from in
     let isn = not-other x v is in
@@ -211,9 +211,9 @@ well-insert x d o e v l w from form shape last sent room unused b =
         present = omega (arith, sum-insert (λ u. oneIf (isFrom (numberAt x) u)) x v l, w .own .present);
         bounds = b;
         number = all-insert (numbered (numberAt x) (e .last)) x v l
-          ∙ and (numbered (numberAt x) (e .last) v) (all (numbered (numberAt x) (e .last)) l)
+            ∙ and (numbered (numberAt x) (e .last) v) (all (numbered (numberAt x) (e .last)) l)
             (or-intro (not (isFrom (numberAt x) v)) (leb 1 (v .form) && leb (v .form) (e .last))
-              (and (leb 1 (v .form)) (leb (v .form) (e .last)) (le-leb 1 (v .form) (omega arith)) (le-leb (v .form) (e .last) (omega arith))))
+            (and (leb 1 (v .form)) (leb (v .form) (e .last)) (le-leb 1 (v .form) (omega arith)) (le-leb (v .form) (e .last) (omega arith))))
             (numbered-more (numberAt x) (d .last) (e .last) l (omega arith) (w .own .number));
       };
       far = far-made (numberAt (otherAt x)) o x v l isn (w .far);
@@ -278,6 +278,10 @@ line-with n [] h = refl
 line-with zero (x ∷ l) h = absurd (omega arith)
 line-with (suc n) (x ∷ l) h = ap (λ (t : List Vehicle). x ∷ t) (line-with n l (omega arith))
 
+pub line-after : (s : Section) (x : Station) (e : Desk) (l : List Vehicle) → length l ≤ 24 → lineOf (withDesk (withLine s l) x e) ≡ l
+line-after s A e l h = line-with 24 l h
+line-after s B e l h = line-with 24 l h
+
 pub length-padTo : (n : ℕ) (l : List Vehicle) → length (padTo n l) ≡ n
 unfolding padTo
 length-padTo zero l = refl
@@ -297,16 +301,26 @@ well-of s x p h = go x
   where
     e : Each (madeTests s)
     e = each-holds (madeTests s) h
+
     len : length (lineOf s) ≡ s .len
     len = length-take-le (s .len) (s .vehicles) (omega (arith, leb-true (s .len) 24 (e .0)))
+
     go : (x : Station) → Well x (deskOf s x) (deskOf s (otherAt x)) (lineOf s)
     go A = record {
-      fits = omega (arith, len, leb-true (s .len) 24 (e .0)); shape = e .1 .1 .0; order = e .1 .1 .1 .0; distinct = e .1 .1 .1 .1 .0;
-      own = desk-made 1 (s .a) (lineOf s) (e .1 .1 .1 .1 .1 .0); far = desk-made 2 (s .b) (lineOf s) (e .1 .1 .1 .1 .1 .1 .0);
+      fits = omega (arith, len, leb-true (s .len) 24 (e .0));
+      shape = e .1 .1 .0;
+      order = e .1 .1 .1 .0;
+      distinct = e .1 .1 .1 .1 .0;
+      own = desk-made 1 (s .a) (lineOf s) (e .1 .1 .1 .1 .1 .0);
+      far = desk-made 2 (s .b) (lineOf s) (e .1 .1 .1 .1 .1 .1 .0);
     }
     go B = record {
-      fits = omega (arith, len, leb-true (s .len) 24 (e .0)); shape = e .1 .1 .0; order = e .1 .1 .1 .0; distinct = e .1 .1 .1 .1 .0;
-      own = desk-made 2 (s .b) (lineOf s) (e .1 .1 .1 .1 .1 .1 .0); far = desk-made 1 (s .a) (lineOf s) (e .1 .1 .1 .1 .1 .0);
+      fits = omega (arith, len, leb-true (s .len) 24 (e .0));
+      shape = e .1 .1 .0;
+      order = e .1 .1 .1 .0;
+      distinct = e .1 .1 .1 .1 .0;
+      own = desk-made 2 (s .b) (lineOf s) (e .1 .1 .1 .1 .1 .1 .0);
+      far = desk-made 1 (s .a) (lineOf s) (e .1 .1 .1 .1 .1 .0);
     }
 
 pub length-line : (s : Section) → length (s .vehicles) ≡ 24 → wellMade s ≡ true → length (lineOf s) ≡ s .len

@@ -56,9 +56,9 @@ pub record Departs (act : Act) (x : Station) (d e : Desk) (m : Movement) (class 
 pub data Fate (act : Act) (x : Station) (force : Bool) (d : Desk) (t : ℕ) (v : Vehicle) : Plan → Type 0 where
   refuses : (why : Refusal) → Fate act x force d t v (Refuse why)
   departs : {e : Desk} {m : Movement} {class forms : ℕ} {speed : Speed} → force ≡ true → Departs act x d e m class forms speed
-    → Fate act x force d t v (Depart e m class forms speed)
+      → Fate act x force d t v (Depart e m class forms speed)
   arrives : (y : Station) (n : ℕ) → act ≡ Receives y n → force ≡ true → isNamed y n v ≡ true → mayEnter x v ≡ true
-    → Fate act x force d t v (Arrive (arriveDesk x d t v))
+      → Fate act x force d t v (Arrive (arriveDesk x d t v))
 
 plan-elim : (P : Plan → Type 0) (tests : List (Bool × Refusal)) (p : Plan) → ((why : Refusal) → P (Refuse why)) → (NoneHolds tests → P p) → P (unlessRefused (firstOf tests) p)
 plan-elim P tests p no-way ok = go (firstOf tests) refl
@@ -145,23 +145,23 @@ train-passes force d t granted n = record {
 
 -- OPEN and THROUGH
 opener-fate : (act : Act) (x : Station) (force : Bool) (d : Desk) (t : ℕ) (v : Vehicle) (out : Bool) (m : Movement) (class forms : ℕ) (w : View) → Bounds d
-  → isOpener m ≡ true → (OpenPasses force d → out ≡ isOpen m) → every (movementTests m class) ≡ true → kindOf act ≡ some (kindIn m) → eqb (forms % 2) 1 ≡ true
-  → Fate act x force d t v (unlessRefused (firstOf (openTests force d t)) (Depart (departed d t out (d .guest) (d .asked) (d .holds) (d .owes)) m class forms (openSpeed w)))
+    → isOpener m ≡ true → (OpenPasses force d → out ≡ isOpen m) → every (movementTests m class) ≡ true → kindOf act ≡ some (kindIn m) → eqb (forms % 2) 1 ≡ true
+    → Fate act x force d t v (unlessRefused (firstOf (openTests force d t)) (Depart (departed d t out (d .guest) (d .asked) (d .holds) (d .owes)) m class forms (openSpeed w)))
 opener-fate act x force d t v out m class forms w b op is-out shape kind odd =
     plan-elim (Fate act x force d t v) (openTests force d t) _ (λ k. refuses k)
     (λ n.
-      let p = open-passes force d t n in
-      departs (p .begun) (record {
-        last = refl;
-        sent = refl;
-        room = p .depart .room;
-        unused = p .depart .unused;
-        bounds = record { guest = b .guest; asked = b .asked; holds = b .holds; owes = b .owes; interval = at-most t };
-        shape = shape;
-        keeps = λ o mine theirs h. kept-opener d o _ m mine theirs h op (p .out) (p .holds) (p .owes) (p .guest) (is-out p) (p .holds) (p .owes) (p .guest);
-        kind = kind;
-        slowly = λ q. and (eqb (forms % 2) 1) (isSlow (openSpeed w)) odd (open-slow w);
-      }))
+    let p = open-passes force d t n in
+    departs (p .begun) (record {
+      last = refl;
+      sent = refl;
+      room = p .depart .room;
+      unused = p .depart .unused;
+      bounds = record { guest = b .guest; asked = b .asked; holds = b .holds; owes = b .owes; interval = at-most t };
+      shape = shape;
+      keeps = λ o mine theirs h. kept-opener d o _ m mine theirs h op (p .out) (p .holds) (p .owes) (p .guest) (is-out p) (p .holds) (p .owes) (p .guest);
+      kind = kind;
+      slowly = λ q. and (eqb (forms % 2) 1) (isSlow (openSpeed w)) odd (open-slow w);
+    }))
 
 pub fate : (act : Act) (x : Station) (force : Bool) (d : Desk) (t : ℕ) (v : Vehicle) → Each (actTests act) → Bounds d → Fate act x force d t v (planOf act x force d t v)
 fate (Opens w class asked) x force d t v r b =
@@ -170,33 +170,33 @@ fate (Passes w) x force d t v r b = opener-fate (Passes w) x force d t v (d .out
 fate (Returns asked granted) x force d t v r b =
     plan-elim (Fate (Returns asked granted) x force d t v) (returnTests force d t granted) _ (λ k. refuses k)
     (λ n.
-      let p = return-passes force d t granted n in
-      departs (p .begun) (record {
-        last = refl;
-        sent = refl;
-        room = p .depart .room;
-        unused = p .depart .unused;
-        bounds = record { guest = omega arith; asked = omega arith; holds = b .holds; owes = or-else-le granted (d .owes) (leb-true granted 8 (r .1 .0)) (b .owes); interval = at-most t };
-        shape = every-holds (movementTests (Return asked granted) (d .guest)) (le-leb 1 (d .guest) (p .guest), (le-leb (d .guest) 5 (b .guest), r));
-        keeps = λ o mine theirs h. kept-return d o _ asked granted mine theirs h (p .guest) (p .holds) refl (p .holds) refl refl;
-        kind = refl;
-        slowly = λ q. absurd (false-true q);
-      }))
+    let p = return-passes force d t granted n in
+    departs (p .begun) (record {
+      last = refl;
+      sent = refl;
+      room = p .depart .room;
+      unused = p .depart .unused;
+      bounds = record { guest = omega arith; asked = omega arith; holds = b .holds; owes = or-else-le granted (d .owes) (leb-true granted 8 (r .1 .0)) (b .owes); interval = at-most t };
+      shape = every-holds (movementTests (Return asked granted) (d .guest)) (le-leb 1 (d .guest) (p .guest), (le-leb (d .guest) 5 (b .guest), r));
+      keeps = λ o mine theirs h. kept-return d o _ asked granted mine theirs h (p .guest) (p .holds) refl (p .holds) refl refl;
+      kind = refl;
+      slowly = λ q. absurd (false-true q);
+    }))
 fate (Runs w asked granted) x force d t v r b =
     plan-elim (Fate (Runs w asked granted) x force d t v) (trainTests force d t granted) _ (λ k. refuses k)
     (λ n.
-      let p = train-passes force d t granted n in
-      departs (p .begun) (record {
-        last = refl;
-        sent = refl;
-        room = p .depart .room;
-        unused = p .depart .unused;
-        bounds = record { guest = b .guest; asked = zero-or-le (ltb 0 granted) (d .asked) (b .asked); holds = omega (arith, b .holds); owes = or-else-le granted (d .owes) (leb-true granted 8 (r .1 .0)) (b .owes); interval = at-most t };
-        shape = every-holds (movementTests (Train asked granted) 0) (refl, r);
-        keeps = λ o mine theirs h. kept-train d o _ asked granted mine theirs h (p .holds) (p .last) refl refl refl refl;
-        kind = refl;
-        slowly = λ q. absurd (false-true q);
-      }))
+    let p = train-passes force d t granted n in
+    departs (p .begun) (record {
+      last = refl;
+      sent = refl;
+      room = p .depart .room;
+      unused = p .depart .unused;
+      bounds = record { guest = b .guest; asked = zero-or-le (ltb 0 granted) (d .asked) (b .asked); holds = omega (arith, b .holds); owes = or-else-le granted (d .owes) (leb-true granted 8 (r .1 .0)) (b .owes); interval = at-most t };
+      shape = every-holds (movementTests (Train asked granted) 0) (refl, r);
+      keeps = λ o mine theirs h. kept-train d o _ asked granted mine theirs h (p .holds) (p .last) refl refl refl refl;
+      kind = refl;
+      slowly = λ q. absurd (false-true q);
+    }))
 fate (Receives y k) x force d t v r b =
     plan-elim (Fate (Receives y k) x force d t v) (receiveTests x force d t y k v) _ (λ j. refuses j)
     (λ n. arrives y k refl (not-false force (n .0)) (not-false (isNamed y k v) (n .1 .1 .0)) (not-false (mayEnter x v) (n .1 .1 .1 .0)))

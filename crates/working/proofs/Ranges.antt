@@ -89,9 +89,11 @@ ranged-of bytes event h = by-found (found bytes 0)
   where
     entry : Entry
     entry = entryIn bytes
+
     by-verdict : (v : Verdict) → judge entry ≡ v → decodedAs (readAs v entry (0 + lengthOf (mapIn bytes))) ≡ Says event → Ranged event
     by-verdict Allowed allowed is = let same : eventOf entry ≡ event = cc in rw same at (ranged entry allowed)
     by-verdict (Refused why) allowed is = absurd (bad-says is)
+
     by-found : Found bytes 0 → Ranged event
     by-found (the-end r) = absurd (bad-says (sym (ap decodedAs r) ∙ h))
     by-found (cut r) = absurd (bad-says (sym (ap decodedAs r) ∙ h))

@@ -82,10 +82,10 @@ pub record Demand3 {l : List Done} {s : Section} (run : Run fresh l s) : Type 0 
   pub departed : (i : ℕ) → i < s .len → (p : Departure) × (departureOf l (vehicleAt s i) ≡ some p) × (p .kind ≡ kindIn (vehicleAt s i .movement))
   -- any two vehicles heading towards one another both left on T/B 602 at 15 km/h or less
   pub opposed : (i j : ℕ) → i < j → j < s .len → vehicleAt s i .heading ≡ numberAt B → vehicleAt s j .heading ≡ numberAt A
-    → (leftSlowly (departureOf l (vehicleAt s i)) ≡ true) × (leftSlowly (departureOf l (vehicleAt s j)) ≡ true)
+      → (leftSlowly (departureOf l (vehicleAt s i)) ≡ true) × (leftSlowly (departureOf l (vehicleAt s j)) ≡ true)
   -- line clears owed by each station = those the other holds + the other's trains in the section + line clears on the way to the other
   pub owed : s .force ≡ true → (x : Station) → deskOf s x .owes ≡ deskOf s (otherAt x) .holds + trainsOf l s (otherAt x) + onTheWayTo s (otherAt x)
   -- two neighbours change places: every entry has the same answer, and the section is the same in every figure
   pub swap : (before : List Done) (d e : Done) (after : List Done) (x y : Station) (first second : Act) → l ≡ before ++ d ∷ e ∷ after
-    → AcceptedAt d x first → AcceptedAt e y second → (x ≡ y → ⊥) → (ReceivesIt first x (d .answer) second → ⊥)
-    → Run fresh (before ++ e ∷ d ∷ after) s
+      → AcceptedAt d x first → AcceptedAt e y second → (x ≡ y → ⊥) → (ReceivesIt first x (d .answer) second → ⊥)
+      → Run fresh (before ++ e ∷ d ∷ after) s

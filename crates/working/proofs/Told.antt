@@ -1,0 +1,212 @@
+-- Each vehicle present has its departure in the list of steps, of the kind that its record says; an OPEN or THROUGH left on T/B 602 at 15 km/h or less.
+-- A step that is no accepted departure adds none; one that is takes a form number that no vehicle present has.
+-- Assumes nothing.
+use Prim.Native.Nat.{_+_, _<_, _≤_, suc, zero, ℕ}
+use Rattle.working.proofs.Changes.{Change, Nearest, Sound, arrival, departure, emptying, meeting, nearest-of, refusal, well-arrive, well-at, well-depart}
+use Rattle.working.proofs.Invariant.{granted, trainOne, trains, weigh, weigh-snoc}
+use Rattle.working.proofs.Line.{number-same}
+use Rattle.working.proofs.Made.{line-after, line-with, movesOf}
+use Rattle.working.proofs.Meeting.{turn-length}
+use Rattle.working.proofs.Plans.{Departs}
+use Rattle.working.proofs.Tests.{both}
+use Rattle.working.specs.Demand3.{grantedIn, ofStation}
+use Rattle.working.specs.Departures.{Departure, Kind, departureBy, departureOf, departureWith, ifOf, isTrain, kindIn, kindOf, laterOr, leftOnTrain, leftSlowly}
+use Rattle.working.specs.Effects.{vehicleFor}
+use Rattle.working.specs.Events.{Bad, Decoded, Says, decode}
+use Rattle.working.specs.Reasons.{mayEnter}
+use Rattle.working.specs.Runs.{Done}
+use Rattle.working.specs.Sections.{deskOf, insertAt, lineOf, numberAt, unused}
+use Rattle.working.specs.Steps.{metAt, turnAt, turned}
+use Rattle.working.specs.WellMade.{all, isFrom, isOpener, numbered, oneIf, sumOver}
+use Rattle.working.specs.declared.Act.{Act}
+use Rattle.working.specs.declared.Answer.the-variants.{Accepted, Refused}
+use Rattle.working.specs.declared.Desk.{Desk}
+use Rattle.working.specs.declared.Event.the-variants.{At, Begin, Meet, Resume}
+use Rattle.working.specs.declared.Movement.{Movement}
+use Rattle.working.specs.declared.Refusal.{Refusal}
+use Rattle.working.specs.declared.Section.{Section}
+use Rattle.working.specs.declared.Speed.{Speed}
+use Rattle.working.specs.declared.Station.{Station}
+use Rattle.working.specs.declared.Station.the-variants.{A, B}
+use Rattle.working.specs.declared.Stepped.{Stepped}
+use Rattle.working.specs.declared.Vehicle.{Vehicle}
+use borrow.Author.Tests.{eq-eqb, eqb-true, leb-true, ne-eqb}
+use lib.Dec.{eqb, leb}
+use lib.ListN.{getD, length}
+use mathlib.Core.Bool.{Bool, _&&_, cond, false, true}
+use mathlib.Core.List.{List, [], _++_, _∷_}
+use mathlib.Core.Option.{Option, none, some}
+use mathlib.Core.Path.{_∙_, _≡_, ap, ap₂, refl, sym}
+use native.Mathlib.Omega.{arith}
+
+-- ---- a statement about every vehicle of a line
+
+abbrev pub Every : (Vehicle → Type 0) → List Vehicle → Type 0
+Every P [] = Unit {0}
+Every P (v ∷ l) = P v × Every P l
+
+pub every-at : (P : Vehicle → Type 0) (l : List Vehicle) → Every P l → (i : ℕ) → i < length l → P (getD l i unused)
+every-at P [] h i k = absurd (omega arith)
+every-at P (v ∷ l) h zero k = h .0
+every-at P (v ∷ l) h (suc i) k = every-at P l (h .1) i (omega arith)
+
+module _ (P : Vehicle → Type 0) where
+  every-map : (Q : Vehicle → Type 0) → ((v : Vehicle) → P v → Q v) → (l : List Vehicle) → Every P l → Every Q l
+  every-map Q f [] h = tt
+  every-map Q f (v ∷ l) h = (f v (h .0), every-map Q f l (h .1))
+
+  every-insert : (x : Station) (v : Vehicle) (l : List Vehicle) → P v → Every P l → Every P (insertAt x v l)
+  every-insert A v l p h = (p, h)
+  every-insert B v [] p h = (p, tt)
+  every-insert B v (u ∷ l) p h = (h .0, every-insert B v l p (h .1))
+
+  every-rest : (x : Station) (v : Vehicle) (l : List Vehicle) → Every P (insertAt x v l) → Every P l
+  every-rest A v l h = h .1
+  every-rest B v [] h = tt
+  every-rest B v (u ∷ l) h = (h .0, every-rest B v l (h .1))
+
+  every-turn : (z : Station) → ((v : Vehicle) → P v → P (turned z v)) → (i : ℕ) (l : List Vehicle) → Every P l → Every P (turnAt z i l)
+  every-turn z f i [] h = tt
+  every-turn z f zero (v ∷ l) h = (f v (h .0), h .1)
+  every-turn z f (suc i) (v ∷ l) h = (h .0, every-turn z f i l (h .1))
+
+-- ---- a vehicle and its departure
+
+pub record Told (h : List Done) (v : Vehicle) : Type 0 where
+  pub by : Departure
+  pub is : departureOf h v ≡ some by
+  pub kind : by .kind ≡ kindIn (v .movement)
+  pub slowly : isOpener (v .movement) ≡ true → leftSlowly (some by) ≡ true
+
+later-none : (q : Option Departure) → laterOr q none ≡ q
+later-none none = refl
+later-none (some p) = refl
+
+later-assoc : (a b c : Option Departure) → laterOr (laterOr a b) c ≡ laterOr a (laterOr b c)
+later-assoc none b c = refl
+later-assoc (some p) b c = refl
+
+-- one more step at the end of the list
+departure-snoc : (h : List Done) (d : Done) (v : Vehicle) → departureOf (h ++ d ∷ []) v ≡ laterOr (ifOf v (departureBy (decode (d .bytes)) (d .answer))) (departureOf h v)
+departure-snoc [] d v = sym (later-none (ifOf v (departureBy (decode (d .bytes)) (d .answer))))
+departure-snoc (k ∷ h) d v =
+    ap (λ (q : Option Departure). laterOr q (ifOf v (departureBy (decode (k .bytes)) (k .answer)))) (departure-snoc h d v)
+    ∙ later-assoc (ifOf v (departureBy (decode (d .bytes)) (d .answer))) (departureOf h v) (ifOf v (departureBy (decode (k .bytes)) (k .answer)))
+
+-- heading and met do not tell
+departure-turned : (h : List Done) (z : Station) (v : Vehicle) → departureOf h (turned z v) ≡ departureOf h v
+departure-turned [] z v = refl
+departure-turned (d ∷ h) z v = ap₂ laterOr (departure-turned h z v) (go (departureBy (decode (d .bytes)) (d .answer)))
+  where
+    go : (q : Option Departure) → ifOf (turned z v) q ≡ ifOf v q
+    go none = refl
+    go (some p) = refl
+
+told-turned : (h : List Done) (z : Station) (v : Vehicle) → Told h v → Told h (turned z v)
+told-turned h z v t = record { by = t .by; is = departure-turned h z v ∙ t .is; kind = t .kind; slowly = t .slowly }
+
+module _ (h : List Done) (d : Done) where
+  -- the step's departure is not the vehicle's
+  told-still : (v : Vehicle) → ifOf v (departureBy (decode (d .bytes)) (d .answer)) ≡ none → Told h v → Told (h ++ d ∷ []) v
+  told-still v e t = record {
+    by = t .by;
+    is = departure-snoc h d v ∙ ap (λ (q : Option Departure). laterOr q (departureOf h v)) e ∙ t .is;
+    kind = t .kind;
+    slowly = t .slowly;
+  }
+
+  -- the step is no accepted departure
+  none-more : departureBy (decode (d .bytes)) (d .answer) ≡ none → (l : List Vehicle) → Every (Told h) l → Every (Told (h ++ d ∷ [])) l
+  none-more e l = every-map (Told h) (Told (h ++ d ∷ [])) (λ v. told-still v (ap (ifOf v) e)) l
+
+  -- it is one, with the next form number of its station
+  module _ (p : Departure) (last : ℕ) (e : departureBy (decode (d .bytes)) (d .answer) ≡ some p) (n : p .number ≡ last + 1) where
+    not-its : (v : Vehicle) → numbered (numberAt (p .station)) last v ≡ true → ifOf v (departureBy (decode (d .bytes)) (d .answer)) ≡ none
+    not-its v num = ap (ifOf v) e ∙ ap (λ (b : Bool). cond b (some p) none) (go (eqb (numberAt (p .station)) (v .sender)) refl)
+      where
+        go : (b : Bool) → eqb (numberAt (p .station)) (v .sender) ≡ b → (b && eqb (p .number) (v .form)) ≡ false
+        go false q = refl
+        go true q =
+            let from : isFrom (numberAt (p .station)) v ≡ true = eq-eqb (v .sender) (numberAt (p .station)) (sym (eqb-true (numberAt (p .station)) (v .sender) q)) in
+            let r : (leb 1 (v .form) && leb (v .form) last) ≡ true = rw from at num in
+            ne-eqb (p .number) (v .form) (λ z. omega (arith, leb-true (v .form) last (both (leb 1 (v .form)) (leb (v .form) last) r .1)))
+
+    one-more : (l : List Vehicle) → all (numbered (numberAt (p .station)) last) l ≡ true → Every (Told h) l → Every (Told (h ++ d ∷ [])) l
+    one-more [] num t = tt
+    one-more (v ∷ l) num t =
+        let a = both (numbered (numberAt (p .station)) last v) (all (numbered (numberAt (p .station)) last) l) num in
+        (told-still v (not-its v (a .0)) (t .0), one-more l (a .1) (t .1))
+
+-- a refused step is none
+refused-none : (e : Decoded) (why : Refusal) → departureBy e (Refused why) ≡ none
+refused-none (Bad k) why = refl
+refused-none (Says Begin) why = refl
+refused-none (Says (At x t act)) why = go (kindOf act)
+  where
+    go : (k : Option Kind) → departureWith x k (Refused why) ≡ none
+    go none = refl
+    go (some k) = refl
+refused-none (Says (Meet x y n)) why = refl
+refused-none (Says Resume) why = refl
+
+-- ---- every step keeps it
+
+told-depart : (h : List Done) (d : Done) (s : Section) → Sound s → Every (Told h) (lineOf s)
+    → (x : Station) (time : ℕ) (act : Act) (e : Desk) (m : Movement) (class forms : ℕ) (speed : Speed) → Departs act x (deskOf s x) e m class forms speed
+    → decode (d .bytes) ≡ Says (At x time act) → d .answer ≡ Accepted (e .last) forms speed
+    → Every (Told (h ++ d ∷ [])) (insertAt x (vehicleFor x (e .last) m class) (lineOf s))
+told-depart h d s g told x time act e m class forms speed p q a =
+    let v = vehicleFor x (e .last) m class in
+    let this : Departure = record { station = x; kind = kindIn m; number = e .last; forms = forms; speed = speed } in
+    let by : departureBy (decode (d .bytes)) (d .answer) ≡ some this = rw (q, a, p .kind) in
+    let its : ifOf v (departureBy (decode (d .bytes)) (d .answer)) ≡ some this = ap (ifOf v) by ∙ rw (number-same x, eq-eqb (e .last) (e .last) refl) in
+    every-insert (Told (h ++ d ∷ [])) x v (lineOf s)
+    (record { by = this; is = departure-snoc h d v ∙ ap (λ (k : Option Departure). laterOr k (departureOf h v)) its; kind = refl; slowly = p .slowly })
+    (one-more h d this (deskOf s x .last) by (p .last) (lineOf s) (well-at s x g .own .number) told)
+
+pub told-change : (h : List Done) (d : Done) (s : Section) (e : Decoded) (r : Stepped) → Sound s → Change s e r → decode (d .bytes) ≡ e → d .answer ≡ r .answer
+    → Every (Told h) (lineOf s) → Every (Told (h ++ d ∷ [])) (lineOf (r .section))
+told-change h d s e r g (refusal k why) q a t = none-more h d (ap (departureBy (decode (d .bytes))) a ∙ refused-none (decode (d .bytes)) why) (lineOf s) t
+told-change h d s e r g (emptying k force n) q a t = tt
+told-change h d s e r g (departure x time act {d = e′} {m} {class} {forms} {speed} f p) q a t =
+    rw (line-after s x e′ (insertAt x (vehicleFor x (e′ .last) m class) (lineOf s)) (well-depart s act x e′ m class forms speed g p .fits))
+    (told-depart h d s g t x time act e′ m class forms speed p q a)
+told-change h d s e r g (arrival x time y n f named may) q a t =
+    let by : departureBy (decode (d .bytes)) (d .answer) ≡ none = rw q in
+    let k = nearest-of y n x (lineOf s) named in
+    let fits = well-arrive s x time (k .vehicle) (k .others) g (k .line) (rw (k .near) at may) .fits in
+    rw (k .rest, line-after s x _ (k .others) fits)
+    (none-more h d by (k .others) (every-rest (Told h) x (k .vehicle) (k .others) (rw (k .line) at t)))
+told-change h d s e r g (meeting x y n i f m) q a t =
+    let by : departureBy (decode (d .bytes)) (d .answer) ≡ none = rw q in
+    let fits : length (metAt x i (lineOf s)) ≤ 24 = omega (arith, turn-length x (suc i) (turnAt x i (lineOf s)), turn-length x i (lineOf s), well-at s A g .fits) in
+    rw (line-with 24 (metAt x i (lineOf s)) fits)
+    (none-more h d by (metAt x i (lineOf s))
+    (every-turn (Told h) x (told-turned h x) (suc i) (turnAt x i (lineOf s)) (every-turn (Told h) x (told-turned h x) i (lineOf s) t)))
+
+-- ---- what the departures say of the line
+
+-- a figure that each vehicle has from what it left on, over one station's vehicles
+weigh-line : (y : Station) (f : Vehicle → ℕ) (g : Movement → ℕ) (l : List Vehicle) → Every (λ v. f v ≡ g (v .movement)) l → sumOver (ofStation y f) l ≡ weigh g (movesOf y l)
+weigh-line A f g [] a = refl
+weigh-line B f g [] a = refl
+weigh-line A f g (v ∷ l) a = go (isFrom 1 v) (weigh-line A f g l (a .1))
+  where
+    go : (b : Bool) → sumOver (ofStation A f) l ≡ weigh g (movesOf A l) → cond b (f v) 0 + sumOver (ofStation A f) l ≡ weigh g (cond b (v .movement ∷ movesOf A l) (movesOf A l))
+    go true e = ap₂ _+_ (a .0) e
+    go false e = omega arith
+weigh-line B f g (v ∷ l) a = go (isFrom 2 v) (weigh-line B f g l (a .1))
+  where
+    go : (b : Bool) → sumOver (ofStation B f) l ≡ weigh g (movesOf B l) → cond b (f v) 0 + sumOver (ofStation B f) l ≡ weigh g (cond b (movesOf B l ++ v .movement ∷ []) (movesOf B l))
+    go true e = omega (arith, weigh-snoc g (movesOf B l) (v .movement), a .0)
+    go false e = omega arith
+
+pub trains-told : (h : List Done) (y : Station) (l : List Vehicle) → Every (Told h) l → sumOver (ofStation y (λ v. oneIf (leftOnTrain (departureOf h v)))) l ≡ trains (movesOf y l)
+trains-told h y l t = weigh-line y (λ v. oneIf (leftOnTrain (departureOf h v))) trainOne l (every-map (Told h) _ (λ v k. rw (k .is, k .kind)) l t)
+
+pub granted-line : (y : Station) (l : List Vehicle) → sumOver (ofStation y (λ v. grantedIn (v .movement))) l ≡ granted (movesOf y l)
+granted-line y l = weigh-line y (λ v. grantedIn (v .movement)) grantedIn l (alike l)
+  where
+    alike : (l : List Vehicle) → Every (λ v. grantedIn (v .movement) ≡ grantedIn (v .movement)) l
+    alike [] = tt
+    alike (v ∷ l) = (refl, alike l)

@@ -9,7 +9,8 @@ use Rattle.working.proofs.Lists.{StepDid, each-result, join-run, split-
 use Rattle.working.proofs.Made.{length-line}
 use Rattle.working.proofs.Opposed.{opposed-openers}
 use Rattle.working.proofs.Swap.{Opposite, ab, ba, swapped}
-use Rattle.working.proofs.Told.{Every, Told, every-at, granted-line, told-change, trains-told}
+use Rattle.working.proofs.Line.{Every, every-at}
+use Rattle.working.proofs.Told.{Told, granted-line, told-change, trains-told}
 use Rattle.working.specs.Demand3.{AcceptedAt, Demand3, ReceivesIt, formIn, onTheWayTo, trainsOf, vehicleAt}
 use Rattle.working.specs.Departures.{departureOf, leftSlowly}
 use Rattle.working.specs.Events.{decode}

@@ -5,10 +5,11 @@ use Prim.Native.Nat.{_≤_, suc, ℕ}
 use Rattle.working.proofs.Changes.{Change, Nearest, Sound, arrival, change, departure, emptying, meeting, nearest-of, refusal, sound-emptied, sound-step, well-arrive, well-at, well-depart}
 use Rattle.working.proofs.Invariant.{Half, Halves}
 use Rattle.working.proofs.Line.{number-other, number-same}
-use Rattle.working.proofs.Made.{Well, all-far, line-with, moves-far, moves-none, moves-own, moves-skip, movesOf, not-other, other-sender, shape-of, shape-rest}
-use Rattle.working.proofs.Meeting.{turn-length, turn-moves}
+use Rattle.working.proofs.Made.{Well, all-far, line-with, not-other, other-sender, shape-of, shape-rest}
+use Rattle.working.proofs.Meeting.{turn-length}
 use Rattle.working.proofs.Plans.{Departs}
 use Rattle.working.proofs.Receipts.{arrives-far, arrives-own}
+use Rattle.working.proofs.Sides.{moves-far, moves-none, moves-own, moves-past, moves-skip, moves-turned, movesOf}
 use Rattle.working.proofs.Tests.{both, each-holds}
 use Rattle.working.specs.Effects.{arriveDesk, otherDesk, ownDesk, vehicleFor}
 use Rattle.working.specs.Events.{Decoded, decode}
@@ -54,7 +55,7 @@ kept-depart : (s : Section) (act : Act) (x : Station) (e : Desk) (m : Movement) 
     → Departs act x (deskOf s x) e m class forms speed → Between x e (deskOf s (otherAt x)) (insertAt x (vehicleFor x (e .last) m class) (lineOf s))
 kept-depart s act x e m class forms speed g p =
     let v = vehicleFor x (e .last) m class in
-    rw (moves-own x v (lineOf s) (number-same x), moves-skip (otherAt x) x v (lineOf s) (number-other x))
+    rw (moves-own x v (lineOf s) (number-same x), moves-past x v (lineOf s) (number-other x))
     (p .keeps (deskOf s (otherAt x)) (movesOf x (lineOf s)) (movesOf (otherAt x) (lineOf s)) (kept-at x s g))
 
 kept-arrive : (s : Section) (x : Station) (time : ℕ) (v : Vehicle) (l : List Vehicle) → Good s → lineOf s ≡ insertAt x v l → mayEnter x v ≡ true
@@ -78,14 +79,14 @@ kept-arrive s x time v l g e may = go (isFrom (numberAt x) v) refl
         let q : (isOpener (v .movement) && (not (v .met) || eqb (v .heading) (numberAt x))) ≡ true = rw is at may in
         let opener = both (isOpener (v .movement)) (not (v .met) || eqb (v .heading) (numberAt x)) q .0 in
         arrives-own d time (v .movement) opener (w .own .bounds) .1 o (movesOf x l) (movesOf (otherAt x) l)
-        (rw (moves-own x v l is, moves-skip (otherAt x) x v l (not-other x v is)) at k)
+        (rw (moves-own x v l is, moves-past x v l (not-other x v is)) at k)
     go false is =
         let shape = shape-rest x d o d v l w .0 in
         let moves = each-holds (movementTests (v .movement) (v .class)) (shape-of v shape .moves) in
         let none-own = moves-none x l (all-far x d o d v l w is) in
         rw none-own
         (arrives-far d time (v .class) (v .movement) moves (w .own .bounds) .1 o (movesOf (otherAt x) l)
-        (rw (moves-skip x x v l is, none-own, moves-far x v l (other-sender x v shape is)) at k))
+        (rw (moves-skip x v l is, none-own, moves-far x v l (other-sender x v shape is)) at k))
 
 -- nothing in the section, and nothing on the desks
 kept-emptied : Between A freshDesk freshDesk []
@@ -107,7 +108,7 @@ kept-change s e r g (arrival x time y n f named may) =
     (well-arrive s x time (q .vehicle) (q .others) (g .sound) (q .line) enters) (kept-arrive s x time (q .vehicle) (q .others) g (q .line) enters))
 kept-change s e r g (meeting x y n i f h) =
     let fits : length (metAt x i (lineOf s)) ≤ 24 = omega (arith, turn-length x (suc i) (turnAt x i (lineOf s)), turn-length x i (lineOf s), well-at s A (g .sound) .fits) in
-    rw (line-with 24 (metAt x i (lineOf s)) fits, turn-moves x A (suc i) (turnAt x i (lineOf s)), turn-moves x B (suc i) (turnAt x i (lineOf s)), turn-moves x A i (lineOf s), turn-moves x B i (lineOf s)) (g .kept)
+    rw (line-with 24 (metAt x i (lineOf s)) fits, moves-turned A x (suc i) (turnAt x i (lineOf s)), moves-turned B x (suc i) (turnAt x i (lineOf s)), moves-turned A x i (lineOf s), moves-turned B x i (lineOf s)) (g .kept)
 
 pub good-emptied : (force : Bool) (n : ℕ) → Good (emptied force n)
 good-emptied force n = record { sound = sound-emptied force n; kept = kept-emptied }

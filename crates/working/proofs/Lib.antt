@@ -17,6 +17,7 @@ pub mod ReadThenWritten
 pub mod ReadingEnds
 pub mod Receipts
 pub mod Session
+pub mod Sides
 pub mod Swap
 pub mod Tests
 pub mod Told

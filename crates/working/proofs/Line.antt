@@ -1,7 +1,8 @@
 -- The two ends of the line: every law is stated of `insertAt x v l`, so that it serves both stations, and a departure (forwards) and a receipt (backwards).
-use Prim.Native.Nat.{_+_, _-_, _<_, suc, ℕ}
+use Prim.Native.Nat.{_+_, _-_, _<_, suc, zero, ℕ}
 use Rattle.working.proofs.Tests.{both, false-true}
 use Rattle.working.specs.Sections.{insertAt, nearestAt, numberAt, otherAt, removeAt, unused}
+use Rattle.working.specs.Steps.{turnAt, turned}
 use Rattle.working.specs.WellMade.{all, differ, isFrom, ordered, same, sumOver}
 use Rattle.working.specs.declared.Station.{Station}
 use Rattle.working.specs.declared.Station.the-variants.{A, B}
@@ -27,6 +28,10 @@ number-other B = refl
 pub other-number : (x : Station) → eqb (numberAt (otherAt x)) (numberAt x) ≡ false
 other-number A = refl
 other-number B = refl
+
+pub other-other : (x : Station) → otherAt (otherAt x) ≡ x
+other-other A = refl
+other-other B = refl
 
 -- ---- a vehicle at an end
 
@@ -155,3 +160,34 @@ ordered-far B v (u ∷ l) e h = go (λ k. ordered-far B v l e k) (isFrom 1 u) re
         let q : (isFrom 2 u && all (isFrom 2) (l ++ v ∷ [])) ≡ true = rw p at h in
         let r : (isFrom 2 v && all (isFrom 2) l) ≡ true = rw (all-insert (isFrom 2) B v l) at (both (isFrom 2 u) (all (isFrom 2) (l ++ v ∷ [])) q .1) in
         absurd (false-true (sym e ∙ both (isFrom 2 v) (all (isFrom 2) l) r .0))
+
+-- ---- a statement about every vehicle of a line
+
+abbrev pub Every : (Vehicle → Type 0) → List Vehicle → Type 0
+Every P [] = Unit {0}
+Every P (v ∷ l) = P v × Every P l
+
+pub every-at : (P : Vehicle → Type 0) (l : List Vehicle) → Every P l → (i : ℕ) → i < length l → P (getD l i unused)
+every-at P [] h i k = absurd (omega arith)
+every-at P (v ∷ l) h zero k = h .0
+every-at P (v ∷ l) h (suc i) k = every-at P l (h .1) i (omega arith)
+
+module _ (P : Vehicle → Type 0) where
+  pub every-map : (Q : Vehicle → Type 0) → ((v : Vehicle) → P v → Q v) → (l : List Vehicle) → Every P l → Every Q l
+  every-map Q f [] h = tt
+  every-map Q f (v ∷ l) h = (f v (h .0), every-map Q f l (h .1))
+
+  pub every-insert : (x : Station) (v : Vehicle) (l : List Vehicle) → P v → Every P l → Every P (insertAt x v l)
+  every-insert A v l p h = (p, h)
+  every-insert B v [] p h = (p, tt)
+  every-insert B v (u ∷ l) p h = (h .0, every-insert B v l p (h .1))
+
+  pub every-rest : (x : Station) (v : Vehicle) (l : List Vehicle) → Every P (insertAt x v l) → Every P l
+  every-rest A v l h = h .1
+  every-rest B v [] h = tt
+  every-rest B v (u ∷ l) h = (h .0, every-rest B v l (h .1))
+
+  pub every-turn : (z : Station) → ((v : Vehicle) → P v → P (turned z v)) → (i : ℕ) (l : List Vehicle) → Every P l → Every P (turnAt z i l)
+  every-turn z f i [] h = tt
+  every-turn z f zero (v ∷ l) h = (f v (h .0), h .1)
+  every-turn z f (suc i) (v ∷ l) h = (h .0, every-turn z f i l (h .1))

@@ -22,56 +22,7 @@ use mathlib.Core.List.{List, [], _++_, _∷_}
 use mathlib.Core.Path.{_∙_, _≡_, ap, refl, sym}
 use native.Mathlib.Omega.{arith}
 
--- ---- what each station's vehicles left on, nearest their sender first
-
-abbrev pub movesOf : Station → List Vehicle → List Movement
-movesOf A [] = []
-movesOf A (v ∷ l) = cond (isFrom 1 v) (v .movement ∷ movesOf A l) (movesOf A l)
-movesOf B [] = []
-movesOf B (v ∷ l) = cond (isFrom 2 v) (movesOf B l ++ v .movement ∷ []) (movesOf B l)
-
-pub moves-own : (x : Station) (v : Vehicle) (l : List Vehicle) → isFrom (numberAt x) v ≡ true → movesOf x (insertAt x v l) ≡ v .movement ∷ movesOf x l
-moves-own A v l e = rw e
-moves-own B v [] e = rw e
-moves-own B v (u ∷ l) e = rw (moves-own B v l e) (go (isFrom 2 u))
-  where
-    go : (b : Bool) → cond b ((v .movement ∷ movesOf B l) ++ u .movement ∷ []) (v .movement ∷ movesOf B l) ≡ v .movement ∷ cond b (movesOf B l ++ u .movement ∷ []) (movesOf B l)
-    go true = refl
-    go false = refl
-
-pub moves-skip : (y x : Station) (v : Vehicle) (l : List Vehicle) → isFrom (numberAt y) v ≡ false → movesOf y (insertAt x v l) ≡ movesOf y l
-moves-skip A A v l e = rw e
-moves-skip B A v l e = rw e
-moves-skip A B v [] e = rw e
-moves-skip A B v (u ∷ l) e = rw (moves-skip A B v l e)
-moves-skip B B v [] e = rw e
-moves-skip B B v (u ∷ l) e = rw (moves-skip B B v l e)
-
-pub moves-far : (x : Station) (v : Vehicle) (l : List Vehicle) → isFrom (numberAt (otherAt x)) v ≡ true → movesOf (otherAt x) (insertAt x v l) ≡ movesOf (otherAt x) l ++ v .movement ∷ []
-moves-far A v l e = rw e
-moves-far B v [] e = rw e
-moves-far B v (u ∷ l) e = rw (moves-far B v l e) (go (isFrom 1 u))
-  where
-    go : (b : Bool) → cond b (u .movement ∷ (movesOf A l ++ v .movement ∷ [])) (movesOf A l ++ v .movement ∷ []) ≡ cond b (u .movement ∷ movesOf A l) (movesOf A l) ++ v .movement ∷ []
-    go true = refl
-    go false = refl
-
-pub moves-none : (x : Station) (l : List Vehicle) → all (isFrom (numberAt (otherAt x))) l ≡ true → movesOf x l ≡ []
-moves-none x [] h = go x
-  where
-    go : (x : Station) → movesOf x [] ≡ []
-    go A = refl
-    go B = refl
-moves-none A (v ∷ l) h =
-    let p = both (isFrom 2 v) (all (isFrom 2) l) h in
-    let q : isFrom 1 v ≡ false = rw (eqb-true (v .sender) 2 (p .0)) in
-    rw q (moves-none A l (p .1))
-moves-none B (v ∷ l) h =
-    let p = both (isFrom 1 v) (all (isFrom 1) l) h in
-    let q : isFrom 2 v ≡ false = rw (eqb-true (v .sender) 1 (p .0)) in
-    rw q (moves-none B l (p .1))
-
--- ---- well wellMade, seen from station x: its desk d, the other's o
+-- ---- well made, seen from station x: its desk d, the other's o
 
 -- the desk d of station number n on the line l, test by test
 pub record DeskMade (n : ℕ) (d : Desk) (l : List Vehicle) : Type 0 where

@@ -1,6 +1,6 @@
 -- MEET alters heading and met alone.
 use Prim.Native.Nat.{_+_, suc, zero, ℕ}
-use Rattle.working.proofs.Made.{DeskMade, Well, movesOf, shape-of}
+use Rattle.working.proofs.Made.{DeskMade, Well, shape-of}
 use Rattle.working.proofs.Tests.{and, both}
 use Rattle.working.specs.Sections.{numberAt, otherAt, unused}
 use Rattle.working.specs.Steps.{turnAt, turned}
@@ -47,13 +47,6 @@ module _ (z : Station) where
   turn-differ i [] = refl
   turn-differ zero (v ∷ l) = refl
   turn-differ (suc i) (v ∷ l) = ap₂ _&&_ (turn-all (λ w. not (same v w)) (λ u. refl) i l) (turn-differ i l)
-
-  pub turn-moves : (x : Station) (i : ℕ) (l : List Vehicle) → movesOf x (turnAt z i l) ≡ movesOf x l
-  turn-moves x i [] = refl
-  turn-moves A zero (v ∷ l) = refl
-  turn-moves B zero (v ∷ l) = refl
-  turn-moves A (suc i) (v ∷ l) = rw (turn-moves A i l)
-  turn-moves B (suc i) (v ∷ l) = rw (turn-moves B i l)
 
   turned-shape : (v : Vehicle) → shaped v ≡ true → isOpener (v .movement) ≡ true → shaped (turned z v) ≡ true
   turned-shape v h o =

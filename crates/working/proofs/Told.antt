@@ -3,11 +3,12 @@
 -- Assumes nothing.
 use Prim.Native.Nat.{_+_, _<_, _≤_, suc, zero, ℕ}
 use Rattle.working.proofs.Changes.{Change, Nearest, Sound, arrival, departure, emptying, meeting, nearest-of, refusal, well-arrive, well-at, well-depart}
-use Rattle.working.proofs.Invariant.{granted, trainOne, trains, weigh, weigh-snoc}
-use Rattle.working.proofs.Line.{number-same}
-use Rattle.working.proofs.Made.{line-after, line-with, movesOf}
+use Rattle.working.proofs.Invariant.{granted, trainOne, trains}
+use Rattle.working.proofs.Line.{Every, every-insert, every-map, every-rest, every-turn, number-same}
+use Rattle.working.proofs.Made.{line-after, line-with}
 use Rattle.working.proofs.Meeting.{turn-length}
 use Rattle.working.proofs.Plans.{Departs}
+use Rattle.working.proofs.Sides.{movesOf, moves-weight}
 use Rattle.working.proofs.Tests.{both}
 use Rattle.working.specs.Demand3.{grantedIn, ofStation}
 use Rattle.working.specs.Departures.{Departure, Kind, departureBy, departureOf, departureWith, ifOf, isTrain, kindIn, kindOf, laterOr, leftOnTrain, leftSlowly}
@@ -38,37 +39,6 @@ use mathlib.Core.List.{List, [], _++_, _∷_}
 use mathlib.Core.Option.{Option, none, some}
 use mathlib.Core.Path.{_∙_, _≡_, ap, ap₂, refl, sym}
 use native.Mathlib.Omega.{arith}
-
--- ---- a statement about every vehicle of a line
-
-abbrev pub Every : (Vehicle → Type 0) → List Vehicle → Type 0
-Every P [] = Unit {0}
-Every P (v ∷ l) = P v × Every P l
-
-pub every-at : (P : Vehicle → Type 0) (l : List Vehicle) → Every P l → (i : ℕ) → i < length l → P (getD l i unused)
-every-at P [] h i k = absurd (omega arith)
-every-at P (v ∷ l) h zero k = h .0
-every-at P (v ∷ l) h (suc i) k = every-at P l (h .1) i (omega arith)
-
-module _ (P : Vehicle → Type 0) where
-  every-map : (Q : Vehicle → Type 0) → ((v : Vehicle) → P v → Q v) → (l : List Vehicle) → Every P l → Every Q l
-  every-map Q f [] h = tt
-  every-map Q f (v ∷ l) h = (f v (h .0), every-map Q f l (h .1))
-
-  every-insert : (x : Station) (v : Vehicle) (l : List Vehicle) → P v → Every P l → Every P (insertAt x v l)
-  every-insert A v l p h = (p, h)
-  every-insert B v [] p h = (p, tt)
-  every-insert B v (u ∷ l) p h = (h .0, every-insert B v l p (h .1))
-
-  every-rest : (x : Station) (v : Vehicle) (l : List Vehicle) → Every P (insertAt x v l) → Every P l
-  every-rest A v l h = h .1
-  every-rest B v [] h = tt
-  every-rest B v (u ∷ l) h = (h .0, every-rest B v l (h .1))
-
-  every-turn : (z : Station) → ((v : Vehicle) → P v → P (turned z v)) → (i : ℕ) (l : List Vehicle) → Every P l → Every P (turnAt z i l)
-  every-turn z f i [] h = tt
-  every-turn z f zero (v ∷ l) h = (f v (h .0), h .1)
-  every-turn z f (suc i) (v ∷ l) h = (h .0, every-turn z f i l (h .1))
 
 -- ---- a vehicle and its departure
 
@@ -186,26 +156,11 @@ told-change h d s e r g (meeting x y n i f m) q a t =
 
 -- ---- what the departures say of the line
 
--- a figure that each vehicle has from what it left on, over one station's vehicles
-weigh-line : (y : Station) (f : Vehicle → ℕ) (g : Movement → ℕ) (l : List Vehicle) → Every (λ v. f v ≡ g (v .movement)) l → sumOver (ofStation y f) l ≡ weigh g (movesOf y l)
-weigh-line A f g [] a = refl
-weigh-line B f g [] a = refl
-weigh-line A f g (v ∷ l) a = go (isFrom 1 v) (weigh-line A f g l (a .1))
-  where
-    go : (b : Bool) → sumOver (ofStation A f) l ≡ weigh g (movesOf A l) → cond b (f v) 0 + sumOver (ofStation A f) l ≡ weigh g (cond b (v .movement ∷ movesOf A l) (movesOf A l))
-    go true e = ap₂ _+_ (a .0) e
-    go false e = omega arith
-weigh-line B f g (v ∷ l) a = go (isFrom 2 v) (weigh-line B f g l (a .1))
-  where
-    go : (b : Bool) → sumOver (ofStation B f) l ≡ weigh g (movesOf B l) → cond b (f v) 0 + sumOver (ofStation B f) l ≡ weigh g (cond b (movesOf B l ++ v .movement ∷ []) (movesOf B l))
-    go true e = omega (arith, weigh-snoc g (movesOf B l) (v .movement), a .0)
-    go false e = omega arith
-
 pub trains-told : (h : List Done) (y : Station) (l : List Vehicle) → Every (Told h) l → sumOver (ofStation y (λ v. oneIf (leftOnTrain (departureOf h v)))) l ≡ trains (movesOf y l)
-trains-told h y l t = weigh-line y (λ v. oneIf (leftOnTrain (departureOf h v))) trainOne l (every-map (Told h) _ (λ v k. rw (k .is, k .kind)) l t)
+trains-told h y l t = moves-weight y (λ v. oneIf (leftOnTrain (departureOf h v))) trainOne l (every-map (Told h) _ (λ v k. rw (k .is, k .kind)) l t)
 
 pub granted-line : (y : Station) (l : List Vehicle) → sumOver (ofStation y (λ v. grantedIn (v .movement))) l ≡ granted (movesOf y l)
-granted-line y l = weigh-line y (λ v. grantedIn (v .movement)) grantedIn l (alike l)
+granted-line y l = moves-weight y (λ v. grantedIn (v .movement)) grantedIn l (alike l)
   where
     alike : (l : List Vehicle) → Every (λ v. grantedIn (v .movement) ≡ grantedIn (v .movement)) l
     alike [] = tt

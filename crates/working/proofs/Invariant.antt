@@ -1,4 +1,13 @@
--- What stands between a station and the other, from its own side: its desk d and the other's o, and what the vehicles of each left on, nearest their sender first.
+-- The invariant behind demand 3, and that each kind of departure and receipt keeps it. It is stated from one station's side: its desk d, the other's desk o, and what
+-- the vehicles of each left on, nearest their sender first (`mine`, `theirs`); so no proof here names A or B. docs/THEOREM.md has the clauses in words:
+--     SUM     owes = the other's holds + the other's trains + what the own vehicles grant      `sum`
+--     OUT     out says whether the opener is away: a guest at the other end, the own OPEN, or the other's RETURN nearest here      `outs`
+--     GUEST   a desk with a guest: nothing in the section, no guest opposite, holds and owes nothing      `guests`
+--     HOLDS   a desk that holds a line clear: owes nothing, and every vehicle is a TRAIN of its own      `holding`
+--     NEAR    an OPEN, and a vehicle with a grant, is nearest its sender      `row`, by `may`
+--     RETURN  a RETURN is nearest the other station      `row`, by `may`; `clear`
+--     FRONT   ahead of a RETURN or TRAIN there are only such, of the same sender      `row`, by `may`; `clear`
+-- Assumes nothing.
 use Prim.Native.Nat.{_+_, _-_, _<_, _≤_, ℕ}
 use Rattle.working.proofs.Tests.{and, both, clash, false-true, or-intro, or-left, or-right, or-second}
 use Rattle.working.specs.Demand3.{grantedIn}
@@ -15,7 +24,7 @@ use mathlib.Core.List.{List, [], _++_, _∷_}
 use mathlib.Core.Path.{_∙_, _≡_, ap, ap₂, refl, sym}
 use native.Mathlib.Omega.{arith}
 
--- ---- definitions
+-- ---- the clauses
 
 abbrev pub allM : (Movement → Bool) → List Movement → Bool
 allM p [] = true
@@ -60,8 +69,8 @@ granted l = weigh grantedIn l
 abbrev pub modest : Movement → Bool
 modest m = not (isOpen m) && eqb (grantedIn m) 0
 
--- which may stand ahead of which, both of one station: n ahead of m (farther from their sender).
--- P-NEAR: no OPEN and no grant is ahead of anything. P-FRONT: ahead of a fast one all are fast. P-RETURN: ahead of a RETURN there is none.
+-- whether n may stand ahead of m, both of one station, n the farther from their sender. NEAR: what is ahead is no OPEN and grants nothing.
+-- FRONT: ahead of a fast one all are fast. RETURN: ahead of a RETURN there is nothing.
 abbrev pub may : Movement → Movement → Bool
 may m n = not (isReturn m) && (modest n && (isOpener m || fast n))
 

@@ -1,6 +1,9 @@
 pub mod Bytes
 pub mod Changes
+pub mod Corollaries
 pub mod Demand3
+pub mod Edges
+pub mod Examples
 pub mod Fields
 pub mod Found
 pub mod Invariant
@@ -8,6 +11,7 @@ pub mod Judged
 pub mod Kept
 pub mod Line
 pub mod Lists
+pub mod Logs
 pub mod Made
 pub mod Meeting
 pub mod Opposed

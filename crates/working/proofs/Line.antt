@@ -1,4 +1,6 @@
--- The two ends of the line: every law is stated of `insertAt x v l`, so that it serves both stations, and a departure (forwards) and a receipt (backwards).
+-- The line and its two ends. Every law is stated of `insertAt x v l`, so that it serves both stations, a departure forwards and a receipt backwards.
+-- By cases on the station, A at the front of the list and B at its back.
+-- Assumes nothing.
 use Prim.Native.Nat.{_+_, _-_, _<_, suc, zero, ℕ}
 use Rattle.working.proofs.Tests.{both, false-true}
 use Rattle.working.specs.Sections.{insertAt, nearestAt, numberAt, otherAt, removeAt, unused}

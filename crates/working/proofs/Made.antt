@@ -1,4 +1,6 @@
--- Well made, and the invariants, kept by every step.
+-- Well made, seen from station x: its desk d, the other's o, the vehicles l. A vehicle that leaves x with the next form number, and one that is taken at x, keep it so.
+-- Each clause is a law of the line; there is room for a twenty-fifth vehicle nowhere, since each station has sent at most twelve.
+-- Assumes nothing.
 use Prim.Native.Nat.{_+_, _-_, _<_, _≤_, suc, zero, ℕ}
 use Rattle.working.proofs.Line.{all-insert, differ-insert, insert-length, number-other, ordered-far, ordered-own, other-number, sum-insert}
 use Rattle.working.proofs.Plans.{Bounds}
@@ -248,7 +250,8 @@ rest-blank (suc n) (v ∷ l) = rest-blank n l
 
 pub well-of : (s : Section) (x : Station) → length (s .vehicles) ≡ 24 → wellMade s ≡ true → Well x (deskOf s x) (deskOf s (otherAt x)) (lineOf s)
 unfolding wellMade
-well-of s x p h = go x
+well-of s x p h =
+    record { fits = omega (arith, len, leb-true (s .len) 24 (e .0)); shape = e .1 .1 .0; order = e .1 .1 .1 .0; distinct = e .1 .1 .1 .1 .0; own = desks x; far = desks (otherAt x) }
   where
     e : Each (madeTests s)
     e = each-holds (madeTests s) h
@@ -256,23 +259,9 @@ well-of s x p h = go x
     len : length (lineOf s) ≡ s .len
     len = length-take-le (s .len) (s .vehicles) (omega (arith, leb-true (s .len) 24 (e .0)))
 
-    go : (x : Station) → Well x (deskOf s x) (deskOf s (otherAt x)) (lineOf s)
-    go A = record {
-      fits = omega (arith, len, leb-true (s .len) 24 (e .0));
-      shape = e .1 .1 .0;
-      order = e .1 .1 .1 .0;
-      distinct = e .1 .1 .1 .1 .0;
-      own = desk-made 1 (s .a) (lineOf s) (e .1 .1 .1 .1 .1 .0);
-      far = desk-made 2 (s .b) (lineOf s) (e .1 .1 .1 .1 .1 .1 .0);
-    }
-    go B = record {
-      fits = omega (arith, len, leb-true (s .len) 24 (e .0));
-      shape = e .1 .1 .0;
-      order = e .1 .1 .1 .0;
-      distinct = e .1 .1 .1 .1 .0;
-      own = desk-made 2 (s .b) (lineOf s) (e .1 .1 .1 .1 .1 .1 .0);
-      far = desk-made 1 (s .a) (lineOf s) (e .1 .1 .1 .1 .1 .0);
-    }
+    desks : (y : Station) → DeskMade (numberAt y) (deskOf s y) (lineOf s)
+    desks A = desk-made 1 (s .a) (lineOf s) (e .1 .1 .1 .1 .1 .0)
+    desks B = desk-made 2 (s .b) (lineOf s) (e .1 .1 .1 .1 .1 .1 .0)
 
 pub length-line : (s : Section) → length (s .vehicles) ≡ 24 → wellMade s ≡ true → length (lineOf s) ≡ s .len
 unfolding wellMade
@@ -281,11 +270,13 @@ length-line s p h = length-take-le (s .len) (s .vehicles) (omega (arith, leb-tru
 -- the section with the vehicles l and x's desk e
 pub made-of : (s : Section) (x : Station) (e : Desk) (l : List Vehicle) → s .force ≡ true → Well x e (deskOf s (otherAt x)) l → wellMade (withDesk (withLine s l) x e) ≡ true
 unfolding wellMade
-made-of s A e l f w =
-    every-holds (madeTests (withDesk (withLine s l) A e))
-    (rw (line-with 24 l (w .fits), f)
-    (le-leb (length l) 24 (w .fits), (rest-blank 24 l, (w .shape, (w .order, (w .distinct, (desk-tests 1 e l (w .own), (desk-tests 2 (s .b) l (w .far), (refl, tt)))))))))
-made-of s B e l f w =
-    every-holds (madeTests (withDesk (withLine s l) B e))
-    (rw (line-with 24 l (w .fits), f)
-    (le-leb (length l) 24 (w .fits), (rest-blank 24 l, (w .shape, (w .order, (w .distinct, (desk-tests 1 (s .a) l (w .far), (desk-tests 2 e l (w .own), (refl, tt)))))))))
+made-of s x e l f w = go x (w .own) (w .far)
+  where
+    tests : (d o : Desk) → DeskMade 1 d l → DeskMade 2 o l → Each (madeTests (record { vehicles = padTo 24 l; len = length l; force = s .force; refused = s .refused; a = d; b = o }))
+    tests d o own far =
+        rw (line-with 24 l (w .fits), f)
+        (le-leb (length l) 24 (w .fits), (rest-blank 24 l, (w .shape, (w .order, (w .distinct, (desk-tests 1 d l own, (desk-tests 2 o l far, (refl, tt))))))))
+
+    go : (x : Station) → DeskMade (numberAt x) e l → DeskMade (numberAt (otherAt x)) (deskOf s (otherAt x)) l → wellMade (withDesk (withLine s l) x e) ≡ true
+    go A own far = every-holds (madeTests (withDesk (withLine s l) A e)) (tests e (s .b) own far)
+    go B own far = every-holds (madeTests (withDesk (withLine s l) B e)) (tests (s .a) e far own)

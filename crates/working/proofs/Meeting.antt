@@ -1,4 +1,5 @@
--- MEET alters heading and met alone.
+-- MEET alters heading and met alone: every clause that reads neither stays, and the two vehicles, OPEN or THROUGH, stay well made.
+-- Assumes nothing.
 use Prim.Native.Nat.{_+_, suc, zero, ℕ}
 use Rattle.working.proofs.Made.{DeskMade, Well, shape-of}
 use Rattle.working.proofs.Tests.{and, both}

@@ -1,4 +1,5 @@
--- What a receipt does to the desk, by what the vehicle left on.
+-- What a receipt does to the desk, by what the vehicle left on: the figures stay in range, and the invariant is kept.
+-- Assumes nothing.
 use Prim.Native.Nat.{_-_, ℕ}
 use Rattle.working.proofs.Invariant.{Halves, far-holds, kept-far, kept-guest, kept-own}
 use Rattle.working.proofs.Plans.{Bounds, or-else-le}

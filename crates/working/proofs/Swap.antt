@@ -1,4 +1,7 @@
--- Two entries of different stations change places.
+-- Two accepted entries of different stations, no MEET, the second not receiving what the first sent, change places: the same answers and the same section.
+-- Each reads and alters its own desk and its own end of the line. They could meet only in a line of one vehicle: a departure into an empty line and its receipt
+-- at the other end, which is excluded, or two receipts of one vehicle, of which the second would be refused. It holds on every well-made section.
+-- Assumes nothing.
 use Prim.Native.Nat.{_+_, _<_, _≤_, suc, ℕ}
 use Rattle.working.proofs.Changes.{Sound, named-there, sound-step, step-is, well-at}
 use Rattle.working.proofs.Line.{insert-length, length-remove, nearest-insert, remove-insert, split-end}
@@ -144,22 +147,22 @@ line-by o (Arrive d) (Arrive d₁) l h = removed-both o l (omega arith)
 
 -- ---- what a plan reads
 
-abbrev isTake : Act → Bool
-isTake (Opens a b c) = false
-isTake (Passes a) = false
-isTake (Returns a b) = false
-isTake (Runs a b c) = false
-isTake (Receives y n) = true
+abbrev pub isReceive : Act → Bool
+isReceive (Opens a b c) = false
+isReceive (Passes a) = false
+isReceive (Returns a b) = false
+isReceive (Runs a b c) = false
+isReceive (Receives y n) = true
 
 -- only a RECEIVE reads the vehicle nearest the station
-plan-same : (act : Act) (x : Station) (f : Bool) (d : Desk) (t : ℕ) (v w : Vehicle) → (isTake act ≡ true → v ≡ w) → planOf act x f d t v ≡ planOf act x f d t w
+plan-same : (act : Act) (x : Station) (f : Bool) (d : Desk) (t : ℕ) (v w : Vehicle) → (isReceive act ≡ true → v ≡ w) → planOf act x f d t v ≡ planOf act x f d t w
 plan-same (Opens a b c) x f d t v w h = refl
 plan-same (Passes a) x f d t v w h = refl
 plan-same (Returns a b) x f d t v w h = refl
 plan-same (Runs a b c) x f d t v w h = refl
 plan-same (Receives y n) x f d t v w h = ap (planOf (Receives y n) x f d t) (h refl)
 
-plan-takes : (act : Act) (x : Station) (f : Bool) (d : Desk) (t : ℕ) (v : Vehicle) → goes (planOf act x f d t v) ≡ true → takes (planOf act x f d t v) ≡ oneIf (isTake act)
+plan-takes : (act : Act) (x : Station) (f : Bool) (d : Desk) (t : ℕ) (v : Vehicle) → goes (planOf act x f d t v) ≡ true → takes (planOf act x f d t v) ≡ oneIf (isReceive act)
 plan-takes act x f d t v = elim-plan act
   where
     depart : (r : Verdict) (e : Desk) (m : Movement) (c k : ℕ) (p : Speed) → goes (unlessRefused r (Depart e m c k p)) ≡ true → takes (unlessRefused r (Depart e m c k p)) ≡ 0
@@ -170,7 +173,7 @@ plan-takes act x f d t v = elim-plan act
     arrive (Refused j) e g = absurd (false-true g)
     arrive Allowed e g = refl
 
-    elim-plan : (act : Act) → goes (planOf act x f d t v) ≡ true → takes (planOf act x f d t v) ≡ oneIf (isTake act)
+    elim-plan : (act : Act) → goes (planOf act x f d t v) ≡ true → takes (planOf act x f d t v) ≡ oneIf (isReceive act)
     elim-plan (Opens a b c) g = depart (firstOf (openTests f d t)) _ _ _ _ _ g
     elim-plan (Passes a) g = depart (firstOf (openTests f d t)) _ _ _ _ _ g
     elim-plan (Returns a b) g = depart (firstOf (returnTests f d t b)) _ _ _ _ _ g
@@ -178,7 +181,7 @@ plan-takes act x f d t v = elim-plan act
     elim-plan (Receives y n) g = arrive (firstOf (receiveTests x f d t y n v)) _ g
 
 -- the vehicle that a RECEIVE takes is the one it names
-plan-named : (act : Act) (x : Station) (f : Bool) (d : Desk) (t : ℕ) (v : Vehicle) → isTake act ≡ true → goes (planOf act x f d t v) ≡ true
+plan-named : (act : Act) (x : Station) (f : Bool) (d : Desk) (t : ℕ) (v : Vehicle) → isReceive act ≡ true → goes (planOf act x f d t v) ≡ true
     → (y : Station) × (n : ℕ) × (act ≡ Receives y n) × (isNamed y n v ≡ true)
 plan-named (Opens a b c) x f d t v h g = absurd (false-true h)
 plan-named (Passes a) x f d t v h g = absurd (false-true h)
@@ -203,7 +206,7 @@ same-station A B h = absurd (false-true h)
 same-station B A h = absurd (false-true h)
 same-station B B h = refl
 
-departure-of : (act : Act) → isTake act ≡ false → isDeparture act ≡ true
+departure-of : (act : Act) → isReceive act ≡ false → isDeparture act ≡ true
 departure-of (Opens a b c) h = refl
 departure-of (Passes a) h = refl
 departure-of (Returns a b) h = refl
@@ -262,24 +265,24 @@ module _ (s : Section) (g : Sound s) where
       (p q : Plan) (is-p : p ≡ planAt s x t act) (go-p : goes p ≡ true) (go-q : goes q ≡ true)
       (is-q : q ≡ planOf bct y (s .force) (deskOf s y) u (nearestAt y (lineBy x p (lineOf s))))
       (apart : ReceivesIt act x (answerBy p) bct → ⊥) where
-    takes-p : takes p ≡ oneIf (isTake act)
+    takes-p : takes p ≡ oneIf (isReceive act)
     takes-p = ap takes is-p ∙ plan-takes act x (s .force) (deskOf s x) t (nearestAt x (lineOf s)) (ap goes (sym is-p) ∙ go-p)
 
-    takes-q : takes q ≡ oneIf (isTake bct)
+    takes-q : takes q ≡ oneIf (isReceive bct)
     takes-q = ap takes is-q ∙ plan-takes bct y (s .force) (deskOf s y) u (nearestAt y (lineBy x p (lineOf s))) (ap goes (sym is-q) ∙ go-q)
 
-    there-p : isTake act ≡ true → 0 < length (lineOf s)
+    there-p : isReceive act ≡ true → 0 < length (lineOf s)
     there-p h =
         let n = plan-named act x (s .force) (deskOf s x) t (nearestAt x (lineOf s)) h (ap goes (sym is-p) ∙ go-p) in
         named-there (n .0) (n .1) x (lineOf s) (n .3)
 
-    there-q : isTake bct ≡ true → 0 < length (lineBy x p (lineOf s))
+    there-q : isReceive bct ≡ true → 0 < length (lineBy x p (lineOf s))
     there-q h =
         let n = plan-named bct y (s .force) (deskOf s y) u (nearestAt y (lineBy x p (lineOf s))) h (ap goes (sym is-q) ∙ go-q) in
         named-there (n .0) (n .1) y (lineBy x p (lineOf s)) (n .3)
 
     -- the line was not empty where the second took from it
-    not-empty : isTake bct ≡ true → isTake act ≡ false → 0 < length (lineOf s)
+    not-empty : isReceive bct ≡ true → isReceive act ≡ false → 0 < length (lineOf s)
     not-empty h k =
         let m = plan-named bct y (s .force) (deskOf s y) u (nearestAt y (lineBy x p (lineOf s))) h (ap goes (sym is-q) ∙ go-q) in
         go (m .0) (m .1) (m .2) (lineOf s) (m .3)
@@ -294,9 +297,9 @@ module _ (s : Section) (g : Sound s) where
     fewer (Arrive a) e h = length-remove x (lineOf s) h
 
     enough : takes p + takes q ≤ length (lineOf s)
-    enough = go (isTake act) (isTake bct) refl refl
+    enough = go (isReceive act) (isReceive bct) refl refl
       where
-        go : (a b : Bool) → isTake act ≡ a → isTake bct ≡ b → takes p + takes q ≤ length (lineOf s)
+        go : (a b : Bool) → isReceive act ≡ a → isReceive bct ≡ b → takes p + takes q ≤ length (lineOf s)
         go false false e f = omega (arith, takes-p ∙ ap oneIf e, takes-q ∙ ap oneIf f)
         go true false e f = omega (arith, takes-p ∙ ap oneIf e, takes-q ∙ ap oneIf f, there-p e)
         go false true e f = omega (arith, takes-p ∙ ap oneIf e, takes-q ∙ ap oneIf f, not-empty f e)

@@ -1,0 +1,140 @@
+-- Of every list of steps from a fresh section: no step is refused with 5, since every section on the way is well made and no other test gives 5;
+-- and where a TRAIN of the other station is the nearest, the station owes a line clear, so that "not below 0" never acts.
+-- Assumes nothing.
+use Prim.Native.Nat.{_+_, _<_, ℕ}
+use Rattle.working.proofs.Changes.{step-is}
+use Rattle.working.proofs.Demand3.{kept}
+use Rattle.working.proofs.Invariant.{trainOne, trains, weigh-snoc}
+use Rattle.working.proofs.Kept.{kept-at}
+use Rattle.working.proofs.Line.{nearest-insert, split-end}
+use Rattle.working.proofs.Lists.{split-run, step-did}
+use Rattle.working.proofs.Sides.{moves-far, movesOf}
+use Rattle.working.proofs.Tests.{both}
+use Rattle.working.specs.Departures.{isTrain, kindIn}
+use Rattle.working.specs.Entries.{entryIn, entryTests, judge, lengthOf, mapIn, readAs, readAt}
+use Rattle.working.specs.Events.{Bad, Decoded, Says, decode, decodedAs}
+use Rattle.working.specs.Reasons.{beginTests, findOf, meetTests, openTests, receiveTests, resumeTests, returnTests, trainTests}
+use Rattle.working.specs.Refusals.{firstOf, numberOf, orElse}
+use Rattle.working.specs.Runs.{Done, Run, next}
+use Rattle.working.specs.Sections.{deskOf, fresh, insertAt, lineOf, nearestAt, numberAt, otherAt}
+use Rattle.working.specs.Steps.{doneBy, entered, onDecoded, planOf, settled, stepOf, unlessRefused}
+use Rattle.working.specs.WellMade.{isFrom}
+use Rattle.working.specs.declared.Act.{Act}
+use Rattle.working.specs.declared.Act.the-variants.{Opens, Passes, Receives, Returns, Runs}
+use Rattle.working.specs.declared.Answer.{Answer}
+use Rattle.working.specs.declared.Answer.the-variants as answer
+use Rattle.working.specs.declared.Desk.{Desk}
+use Rattle.working.specs.declared.Event.{Event}
+use Rattle.working.specs.declared.Event.the-variants.{At, Begin, Meet, Resume}
+use Rattle.working.specs.declared.Plan.{Plan}
+use Rattle.working.specs.declared.Plan.the-variants.{Arrive, Depart, Refuse}
+use Rattle.working.specs.declared.Refusal.{Refusal}
+use Rattle.working.specs.declared.Refusal.the-variants.{IllMade}
+use Rattle.working.specs.declared.Section.{Section}
+use Rattle.working.specs.declared.Station.{Station}
+use Rattle.working.specs.declared.Vehicle.{Vehicle}
+use Rattle.working.specs.declared.Verdict.{Verdict}
+use Rattle.working.specs.declared.Verdict.the-variants.{Allowed, Refused}
+use Rattle.working.proofs.Found.{Found, cut, found, the-end, whole}
+use lib.Dec.{eqb}
+use lib.ListN.{length}
+use mathlib.Core.Bool.{Bool, _&&_, false, not, true}
+use mathlib.Core.List.{List, [], _++_, _∷_}
+use mathlib.Core.Path.{_∙_, _≡_, ap, refl, sym}
+use native.Mathlib.Omega.{arith}
+
+-- ---- no step is refused with 5
+
+abbrev notFive : Refusal → Bool
+notFive why = not (eqb (numberOf why) 5)
+
+-- an answer, a verdict and a plan that are no 5
+abbrev Fine : Answer → Type 0
+Fine (answer.Refused why) = notFive why ≡ true
+Fine (answer.Accepted number forms speed) = Unit {0}
+
+abbrev fineVerdict : Verdict → Type 0
+fineVerdict (Refused why) = notFive why ≡ true
+fineVerdict Allowed = Unit {0}
+
+-- no test of a list gives 5: computed on each list as it stands
+abbrev noFive : List (Bool × Refusal) → Bool
+noFive [] = true
+noFive (t ∷ ts) = notFive (t .1) && noFive ts
+
+fine-first : (ts : List (Bool × Refusal)) → noFive ts ≡ true → fineVerdict (firstOf ts)
+fine-first [] h = tt
+fine-first (t ∷ ts) h = let p = both (notFive (t .1)) (noFive ts) h in by (t .0) (p .0) (fine-first ts (p .1))
+  where
+    by : (b : Bool) → notFive (t .1) ≡ true → fineVerdict (firstOf ts) → fineVerdict (orElse b (t .1) (firstOf ts))
+    by true here later = here
+    by false here later = later
+
+fine-done : (s : Section) (x : Station) (v : Verdict) (p : Plan) → fineVerdict v → Fine (doneBy s x p .answer) → Fine (doneBy s x (unlessRefused v p) .answer)
+fine-done s x (Refused why) p h ok = h
+fine-done s x Allowed p h ok = ok
+
+fine-settled : (s : Section) (v : Verdict) (t : Section) → fineVerdict v → Fine (settled s v t .answer)
+fine-settled s (Refused why) t h = h
+fine-settled s Allowed t h = tt
+
+fine-plan : (s : Section) (x : Station) (act : Act) (force : Bool) (d : Desk) (time : ℕ) (v : Vehicle) → Fine (doneBy s x (planOf act x force d time v) .answer)
+fine-plan s x (Opens view class asked) force d time v = fine-done s x (firstOf (openTests force d time)) _ (fine-first (openTests force d time) refl) tt
+fine-plan s x (Passes view) force d time v = fine-done s x (firstOf (openTests force d time)) _ (fine-first (openTests force d time) refl) tt
+fine-plan s x (Returns asked granted) force d time v = fine-done s x (firstOf (returnTests force d time granted)) _ (fine-first (returnTests force d time granted) refl) tt
+fine-plan s x (Runs view asked granted) force d time v = fine-done s x (firstOf (trainTests force d time granted)) _ (fine-first (trainTests force d time granted) refl) tt
+fine-plan s x (Receives sender form) force d time v = fine-done s x (firstOf (receiveTests x force d time sender form v)) _ (fine-first (receiveTests x force d time sender form v) refl) tt
+
+fine-entered : (s : Section) (e : Event) → Fine (entered s e .answer)
+unfolding entered
+fine-entered s Begin = fine-settled s (firstOf (beginTests (s .force))) _ (fine-first (beginTests (s .force)) refl)
+fine-entered s (At x time act) = fine-plan s x act (s .force) (deskOf s x) time (nearestAt x (lineOf s))
+fine-entered s (Meet x sender form) =
+    let tests = meetTests (s .force) (lineOf s) (findOf sender form (lineOf s)) in
+    fine-settled s (firstOf tests) _ (fine-first tests refl)
+fine-entered s Resume = fine-settled s (firstOf (resumeTests (s .force) (s .len))) _ (fine-first (resumeTests (s .force) (s .len)) refl)
+
+-- what bytes come to is no 5 either
+abbrev FineDecoded : Decoded → Type 0
+FineDecoded (Bad why) = notFive why ≡ true
+FineDecoded (Says e) = Unit {0}
+
+fine-decode : (bytes : List ℕ) → FineDecoded (decode bytes)
+unfolding decode judge
+fine-decode bytes = by-found (found bytes 0)
+  where
+    by-verdict : (v : Verdict) → fineVerdict v → FineDecoded (decodedAs (readAs v (entryIn bytes) (0 + lengthOf (mapIn bytes))))
+    by-verdict (Refused why) h = h
+    by-verdict Allowed h = tt
+
+    by-found : Found bytes 0 → FineDecoded (decodedAs (readAt bytes 0))
+    by-found (the-end r) = rw r refl
+    by-found (cut r) = rw r refl
+    by-found (whole fits r) = rw r (by-verdict (judge (entryIn bytes)) (fine-first (entryTests (entryIn bytes)) refl))
+
+fine-decoded : (s : Section) (e : Decoded) → FineDecoded e → Fine (onDecoded s e .answer)
+fine-decoded s (Bad why) h = h
+fine-decoded s (Says e) h = fine-entered s e
+
+pub never-five : {l : List Done} {s : Section} → Run fresh l s → (before : List Done) (d : Done) (after : List Done) → l ≡ before ++ d ∷ after → Fine (d .answer)
+never-five {s = s} run before d after is = let q = split-run before (rw is at run) in by (q .0) (q .1) (q .2)
+  where
+    by : (t : Section) → Run fresh before t → Run t (d ∷ after) s → Fine (d .answer)
+    by t r (next {t = u} h more) =
+        let did = step-did d t u h in
+        rw (did .0, step-is t (d .bytes) (kept r .good .sound .well)) (fine-decoded t (decode (d .bytes)) (fine-decode (d .bytes)))
+
+-- ---- a TRAIN that comes is owed
+
+pub train-owed : {l : List Done} {s : Section} → Run fresh l s → (x : Station) → 0 < length (lineOf s)
+    → isFrom (numberAt (otherAt x)) (nearestAt x (lineOf s)) ≡ true → isTrain (kindIn (nearestAt x (lineOf s) .movement)) ≡ true
+    → 0 < deskOf s x .owes
+train-owed {s = s} run x there from train =
+    let q = split-end x (lineOf s) there in
+    let v = q .0 in
+    let near : nearestAt x (lineOf s) ≡ v = ap (nearestAt x) (q .2) ∙ nearest-insert x v (q .1) in
+    let from-v : isFrom (numberAt (otherAt x)) v ≡ true = rw near at from in
+    let one : trainOne (v .movement) ≡ 1 = rw (rw near at train) in
+    let theirs : movesOf (otherAt x) (lineOf s) ≡ movesOf (otherAt x) (q .1) ++ v .movement ∷ [] = ap (movesOf (otherAt x)) (q .2) ∙ moves-far x v (q .1) from-v in
+    let counted : trains (movesOf (otherAt x) (lineOf s)) ≡ trains (movesOf (otherAt x) (q .1)) + trainOne (v .movement) = ap trains theirs ∙ weigh-snoc trainOne (movesOf (otherAt x) (q .1)) (v .movement) in
+    omega (arith, kept-at x s (kept run .good) .own .sum)

@@ -1,0 +1,80 @@
+-- Demand 3 is not empty: lists, by computation, with two opposed vehicles, with a line clear on the way, and with two neighbours that change places.
+-- Assumes nothing.
+use Prim.Native.Nat.{ℕ}
+use Rattle.working.proofs.Demand3.{demand3}
+use Rattle.working.proofs.Edges.{begin, opens, receive, returns}
+use Rattle.working.proofs.Lists.{Todo, after, done, runs}
+use Rattle.working.proofs.Swap.{isReceive}
+use Rattle.working.proofs.Tests.{false-true}
+use Rattle.working.specs.Demand3.{AcceptedAt, ReceivesIt, onTheWayTo, vehicleAt}
+use Rattle.working.specs.Entries.{entryIn, judge, lengthOf, mapFits, rangesHold, readAt}
+use Rattle.working.specs.Events.{decode}
+use Rattle.working.specs.Runs.{Done, Run, byValue, inPlace}
+use Rattle.working.specs.Sections.{deskOf, fresh, numberAt, padTo}
+use Rattle.working.specs.Steps.{entered, stepOf}
+use Rattle.working.specs.WellMade.{wellMade}
+use Rattle.working.specs.declared.Act.the-variants.{Opens}
+use Rattle.working.specs.declared.Answer.the-variants.{Accepted}
+use Rattle.working.specs.declared.Section.{Section}
+use Rattle.working.specs.declared.Speed.the-variants.{Kmh, NoSpeed, Walking}
+use Rattle.working.specs.declared.Station.the-variants.{A, B}
+use Rattle.working.specs.declared.View.the-variants.{Clear, Impaired}
+use mathlib.Core.Bool.{true}
+use mathlib.Core.List.{List, [], _∷_}
+use mathlib.Core.Path.{_≡_, ap, refl}
+use native.Mathlib.Omega.{arith}
+
+-- BEGIN, an OPEN from each station, A's altered in memory and B's returned
+abbrev two : List Todo
+two = record { form = byValue; bytes = begin } ∷ record { form = inPlace; bytes = opens 1 5 1 2 } ∷ record { form = byValue; bytes = opens 2 9 3 1 } ∷ []
+
+-- ---- two opposed vehicles
+
+opposed-there : (after fresh two .len ≡ 2) × (vehicleAt (after fresh two) 0 .heading ≡ numberAt B) × (vehicleAt (after fresh two) 1 .heading ≡ numberAt A)
+unfolding stepOf wellMade decode readAt judge mapFits rangesHold entryIn lengthOf entered padTo
+opposed-there = (refl, refl, refl)
+
+-- ---- a line clear on the way
+
+-- A's opener is received at B, whose RETURN grants the two trains asked for
+abbrev granting : List Todo
+granting =
+    record { form = byValue; bytes = begin } ∷ record { form = byValue; bytes = opens 1 5 1 2 }
+    ∷ record { form = byValue; bytes = receive 2 60 1 1 } ∷ record { form = byValue; bytes = returns 2 61 2 } ∷ []
+
+on-the-way : (onTheWayTo (after fresh granting) A ≡ 2) × (deskOf (after fresh granting) B .owes ≡ 2) × (after fresh granting .force ≡ true)
+unfolding stepOf wellMade decode readAt judge mapFits rangesHold entryIn lengthOf entered padTo
+on-the-way = (refl, refl, refl)
+
+-- ---- two neighbours that change places
+
+abbrev first : Done
+first = record { form = inPlace; bytes = opens 1 5 1 2; answer = Accepted 1 7 (Kmh 15) }
+
+abbrev second : Done
+second = record { form = byValue; bytes = opens 2 9 3 1; answer = Accepted 1 7 Walking }
+
+abbrev begins : Done
+begins = record { form = byValue; bytes = begin; answer = Accepted 0 0 NoSpeed }
+
+is-list : done fresh two ≡ begins ∷ first ∷ second ∷ []
+unfolding stepOf wellMade decode readAt judge mapFits rangesHold entryIn lengthOf entered padTo
+is-list = refl
+
+first-accepted : AcceptedAt first A (Opens Clear 1 2)
+unfolding decode readAt judge mapFits rangesHold entryIn lengthOf
+first-accepted = record { time = 5; entry = refl; accepted = refl }
+
+second-accepted : AcceptedAt second B (Opens Impaired 1 1)
+unfolding decode readAt judge mapFits rangesHold entryIn lengthOf
+second-accepted = record { time = 9; entry = refl; accepted = refl }
+
+-- the list with the two in the other order ends in the same section
+pub swapped-list : Run fresh (begins ∷ second ∷ first ∷ []) (after fresh two)
+swapped-list = demand3 (runs fresh two) .swap (begins ∷ []) first second [] A B (Opens Clear 1 2) (Opens Impaired 1 1) is-list first-accepted second-accepted apart not-received
+  where
+    apart : A ≡ B → ⊥
+    apart e = let z : _≡_ {A = ℕ} 0 1 = cc in omega arith
+
+    not-received : ReceivesIt (Opens Clear 1 2) A (first .answer) (Opens Impaired 1 1) → ⊥
+    not-received r = false-true (ap isReceive (r .1))

@@ -70,10 +70,10 @@ abbrev pub begun : Section
 begun = after fresh (begin ∷ [])
 
 -- A's opener, with two trains asked for, stands at B; then its return granting both is back at A, which holds two line clears
-guest : Section
+unfoldable pub guest : Section
 guest = after begun (opens 1 10 1 2 ∷ receive 2 70 1 1 ∷ [])
 
-pub holding : Section
+unfoldable pub holding : Section
 holding = after guest (returns 2 75 2 ∷ receive 1 95 2 1 ∷ [])
 
 -- eleven THROUGHs from A, 30 minutes apart, none received

@@ -20,6 +20,7 @@ pub mod Ranges
 pub mod ReadThenWritten
 pub mod ReadingEnds
 pub mod Receipts
+pub mod Sentences
 pub mod Session
 pub mod Sides
 pub mod Swap

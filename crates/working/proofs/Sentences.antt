@@ -1,0 +1,100 @@
+-- Sentences of document 01, each as one computed equation.
+-- Assumes nothing.
+use Prim.Native.Nat.{ℕ}
+use Rattle.working.proofs.Edges.{after, begin, begun, guest, holding, meet, opens, plain, receive, resume, returns, train}
+use Rattle.working.proofs.Session.{answersOf}
+use Rattle.working.specs.Demand3.{vehicleAt}
+use Rattle.working.specs.Entries.{entryIn, judge, lengthOf, mapFits, rangesHold, readAt, writtenAt}
+use Rattle.working.specs.Events.{decode}
+use Rattle.working.specs.Runs.{runFrom, runOf}
+use Rattle.working.specs.Sections.{countRefusal, emptied, fresh, freshDesk, padTo}
+use Rattle.working.specs.Steps.{entered, stepOf}
+use Rattle.working.specs.WellMade.{wellMade}
+use Rattle.working.specs.declared.Answer.the-variants.{Refused}
+use Rattle.working.specs.declared.Entry.{Entry}
+use Rattle.working.specs.declared.Movement.the-variants.{Open, Return}
+use Rattle.working.specs.declared.Read.the-variants as read
+use Rattle.working.specs.declared.Refusal.the-variants.{BufferTooShort, EndsInside, IllMade, UnknownKind, WrongMap}
+use Rattle.working.specs.declared.Section.{Section}
+use Rattle.working.specs.declared.Written.the-variants as written
+use mathlib.Core.Bool.{false, true}
+use mathlib.Core.List.{List, [], _∷_}
+use mathlib.Core.Path.{_≡_, refl}
+
+-- a section that is not well made: a vehicle counted in an unused place
+abbrev ill : Section
+ill = record { vehicles = padTo 24 []; len = 1; force = true; refused = 7; a = freshDesk; b = freshDesk }
+
+-- a well-made section whose count is at its largest value
+abbrev full : Section
+full = record { vehicles = padTo 24 []; len = 0; force = false; refused = 4294967295; a = freshDesk; b = freshDesk }
+
+-- A1 and B1 opened; and, from the table of edges, A1 a guest at B, its RETURN then on the way
+abbrev opened : Section
+opened = after begun (opens 1 10 1 2 ∷ opens 2 11 2 1 ∷ [])
+
+abbrev returning : Section
+returning = after guest (returns 2 75 2 ∷ [])
+
+abbrev beginning : Entry
+beginning = record { map = 1; kind = 1; station = 0; time = 0; view = 0; class = 0; asked = 0; granted = 0; sender = 0; number = 0 }
+
+-- "A refusal adds 1 to the count and alters nothing else"
+refusal-counts : stepOf begun begin .section ≡ countRefusal begun
+unfolding stepOf wellMade decode readAt judge mapFits rangesHold entryIn lengthOf entered padTo
+refusal-counts = refl
+
+-- "a 32-bit count of refused entries that stops at its largest value"
+count-stops : stepOf full [] .section .refused ≡ 4294967295
+unfolding stepOf wellMade decode readAt judge mapFits rangesHold entryIn lengthOf entered padTo
+count-stops = refl
+
+-- "5 is tested first", also before no bytes, and alters nothing
+ill-made-first : (stepOf ill [] .answer ≡ Refused IllMade) × (stepOf ill [] .section ≡ ill)
+unfolding stepOf wellMade padTo
+ill-made-first = (refl, refl)
+
+-- "BEGIN: in force; all but the count as fresh. RESUME: as fresh but the count."
+begins-and-resumes : (after fresh ([] ∷ begin ∷ []) ≡ emptied true 1) × (after fresh ([] ∷ begin ∷ resume ∷ []) ≡ emptied false 1)
+unfolding stepOf wellMade decode readAt judge mapFits rangesHold entryIn lengthOf entered padTo
+begins-and-resumes = (refl, refl)
+
+-- "OPEN: out is set. The vehicle carries asked."
+opener-away : (opened .a .out ≡ true) × (vehicleAt opened 0 .movement ≡ Open 2)
+unfolding stepOf wellMade decode readAt judge mapFits rangesHold entryIn lengthOf entered padTo
+opener-away = (refl, refl)
+
+-- "OPEN makes guest and asked", and clears nothing: an enquiry is no line clear
+enquiry-is-no-line-clear : (guest .b .guest ≡ 1) × (guest .b .asked ≡ 2) × (guest .b .holds ≡ 0)
+unfolding guest stepOf wellMade decode readAt judge mapFits rangesHold entryIn lengthOf entered padTo
+enquiry-is-no-line-clear = (refl, refl, refl)
+
+-- "RETURN: guest and asked at S cleared; the vehicle has the guest's class and carries asked and granted; granted above 0 becomes S's owes."
+return-leaves : (returning .b .guest ≡ 0) × (returning .b .asked ≡ 0) × (returning .b .owes ≡ 2) × (vehicleAt returning 0 .class ≡ 1) × (vehicleAt returning 0 .movement ≡ Return 0 2)
+unfolding guest stepOf wellMade decode readAt judge mapFits rangesHold entryIn lengthOf entered padTo
+return-leaves = (refl, refl, refl, refl, refl)
+
+-- "TRAIN lowers owes by 1", at the station that receives it; "holds falls by 1" at the one that sent it
+train-arrives : (after holding (train 1 96 ∷ []) .a .holds ≡ 1) × (after holding (train 1 96 ∷ receive 2 130 1 2 ∷ []) .b .owes ≡ 1)
+unfolding guest holding stepOf wellMade decode readAt judge mapFits rangesHold entryIn lengthOf entered padTo
+train-arrives = (refl, refl)
+
+-- "MEET: .. both then head to the station given and are met"
+both-turn : (vehicleAt (after opened (meet 1 1 1 ∷ [])) 0 .heading ≡ 1) × (vehicleAt (after opened (meet 1 1 1 ∷ [])) 1 .heading ≡ 1) × (vehicleAt (after opened (meet 1 1 1 ∷ [])) 0 .met ≡ true)
+unfolding stepOf wellMade decode readAt judge mapFits rangesHold entryIn lengthOf entered padTo
+both-turn = (refl, refl, refl)
+
+-- "a log of no bytes has no entries"
+no-entries : runOf fresh [] ≡ []
+unfolding runFrom
+no-entries = refl
+
+-- "after 2, 3 or 4 reading goes on behind the entry"; "1 .. reading stops"
+reading-goes-on : answersOf (runOf fresh (0 ∷ 3 ∷ 1 ∷ 1 ∷ 1 ∷ 1 ∷ 7 ∷ 7 ∷ [])) ≡ Refused UnknownKind ∷ Refused WrongMap ∷ plain ∷ Refused EndsInside ∷ []
+unfolding runFrom stepOf wellMade decode readAt judge mapFits rangesHold entryIn lengthOf entered padTo
+reading-goes-on = refl
+
+-- "A position past the end gives a reader 1 and a writer 23."
+past-the-end : (readAt (1 ∷ 1 ∷ []) 3 ≡ read.Refused EndsInside 3) × (writtenAt (1 ∷ 1 ∷ []) 3 beginning ≡ written.Refused BufferTooShort)
+unfolding readAt writtenAt judge mapFits rangesHold lengthOf
+past-the-end = (refl, refl)

@@ -1,0 +1,37 @@
+-- `tests::return_verdict` meets its contract: the code scans the definition's tests from the last to the first.
+-- Assumes nothing.
+use borrow.Author.Needs.{needs}
+use Rattle.rules.proofs.tests.return_verdict.Statement.{statement}
+use Rattle.rules.proofs.tests.return_verdict.Tie as tie
+
+departure-verdict-requires : tie.Need-departure-verdict-requires
+departure-verdict-requires c κs = search needs
+
+refuse-if-requires : tie.Need-refuse-if-requires
+refuse-if-requires c κs = search needs
+
+refuse-if-requires-2 : tie.Need-refuse-if-requires-2
+refuse-if-requires-2 c κs = search needs
+
+refuse-if-requires-3 : tie.Need-refuse-if-requires-3
+refuse-if-requires-3 c κs = search needs
+
+in-time-requires : tie.Need-in-time-requires
+in-time-requires c κs = search needs
+
+returns : tie.Need-returns
+returns c =
+    let guest = c .before .before .before in
+    let grant = guest .before .before in
+    rw (c .in-time .ensures, c .before .refuse-if3 .ensures, guest .refuse-if2 .ensures, grant .refuse-if .ensures, grant .before .before .departure-verdict .ensures)
+
+pub return-verdict-spec : {M : Type 1} → statement M
+return-verdict-spec =
+    tie.close
+    (tie.spec
+    departure-verdict-requires
+    refuse-if-requires
+    refuse-if-requires-2
+    refuse-if-requires-3
+    in-time-requires
+    returns)

@@ -1,0 +1,26 @@
+-- The parts of document 01's tests and effects that several kinds share, and what a departure that is allowed may rely on.
+use Prim.Native.Nat.{ℕ, _<_}
+use mathlib.Core.Bool.{Bool, not}
+use lib.Dec.{ltb}
+use Rattle.working.specs.declared.Desk.{Desk}
+use Rattle.working.specs.declared.Refusal.the-variants.{BeforeClock, NotInForce}
+use Rattle.working.specs.declared.Verdict.{Verdict}
+use Rattle.working.specs.Effects.{desk, ifAny, received}
+use Rattle.working.specs.Refusals.{orElse}
+
+-- 7 and 9, then the later tests
+abbrev pub inTime : Bool → ℕ → ℕ → Verdict → Verdict
+inTime force clock time later = orElse (not force) NotInForce (orElse (ltb time clock) BeforeClock later)
+
+-- one more vehicle may be sent, and one more form number issued
+pub record Room (d : Desk) : Type 0 where
+  pub sent : d .sent < 12
+  pub forms : d .last < 9999
+
+-- a receipt that leaves so many departures counted, and alters no other figure
+abbrev pub receivedDesk : Desk → ℕ → ℕ → Desk
+receivedDesk d time sent = received d time sent (d .out) (d .guest) (d .asked) (d .holds) (d .owes)
+
+-- "set holds to granted, and asked if above 0"
+abbrev pub clearsDesk : Desk → ℕ → ℕ → Desk
+clearsDesk d asked granted = desk (d .clock) (d .last) (d .sent) (d .interval) (d .out) (d .guest) (ifAny asked (d .asked)) granted (d .owes)

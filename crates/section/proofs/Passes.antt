@@ -1,0 +1,62 @@
+-- A pass from B's end to A's: at place i it has what a definition by recursion says of the vehicles from place i on.
+-- Assumes nothing.
+use mathlib.Core.Bool.{Bool, true, false, not, cond, _&&_, _||_}
+use mathlib.Core.List.{List, [], _∷_}
+use mathlib.Core.Path.{_≡_, refl, ap, _∙_, sym}
+use Prim.Native.Nat.{ℕ, suc, _+_, _-_, _<_, _≤_, min}
+use native.Mathlib.Decide.{decLe}
+use native.Mathlib.Omega.{arith}
+use lib.ListN.{length, take, drop, getD, drop-of-length-le}
+use lib.Seq.{drop-cons, getD-take, length-take-le, take-all}
+use Rattle.section.specs.Made.{Room, surveyOf}
+use Rattle.working.specs.declared.Vehicle.{Vehicle}
+use Rattle.working.specs.WellMade.{isFrom, oneIf, countFrom}
+
+-- the places from the last but i on
+pub drop-back : {A : Type 0} (l : List A) (i : ℕ) (d : A) → 0 < i → i ≤ length l → drop (i - 1) l ≡ getD l (i - 1) d ∷ drop i l
+drop-back {A} l i d p h =
+    let e : suc (i - 1) ≡ i = omega arith in
+    drop-cons l (i - 1) d (omega arith) ∙ ap (λ (k : ℕ). getD l (i - 1) d ∷ drop k l) e
+
+module _ {A : Type 0} (l : List A) (n : ℕ) (fits : n ≤ length l) where
+  -- a pass over the first n begins with none
+  pub drop-end : drop n (take n l) ≡ []
+  drop-end = drop-of-length-le (take n l) {i = n} (omega (arith, length-take-le n l fits))
+
+  -- and goes on with the one before
+  pub drop-down : (i : ℕ) (d : A) → 0 < i → i ≤ n → drop (i - 1) (take n l) ≡ getD l (i - 1) d ∷ drop i (take n l)
+  drop-down i d p h =
+      drop-back (take n l) i d p (omega (arith, length-take-le n l fits))
+      ∙ ap (λ (x : A). x ∷ drop i (take n l)) (getD-take n l (i - 1) d (omega arith))
+
+-- a length beyond the last place is as good as the number of places
+pub take-present : {A : Type 0} (l : List A) (n k : ℕ) → length l ≡ k → take (min n k) l ≡ take n l
+take-present {A} l n k h = by (decLe n k)
+  where
+    by : Dec (n ≤ k) → take (min n k) l ≡ take n l
+    by (yes p) = let e : min n k ≡ n = omega arith in rw e
+    by (no q) = let e : min n k ≡ k = omega arith in rw e (take-all k l (omega arith) ∙ sym (take-all n l (omega arith)))
+
+-- the place that a search has found so far
+pub found-at : (named : Bool) (i k : ℕ) {found : ℕ} → 0 < i → found ≡ i + k → cond named (i - 1) found ≡ i - 1 + cond named 0 (suc k)
+found-at true i k h e = omega arith
+found-at false i k h e = omega arith
+
+-- one vehicle counts for at most one
+pub one-most : (b : Bool) → oneIf b ≤ 1
+one-most true = omega arith
+one-most false = omega arith
+
+-- of a line of fewer than 24 vehicles one more can be counted
+count-most : (n : ℕ) (l : List Vehicle) → countFrom n l ≤ length l
+count-most n [] = omega arith
+count-most n (v ∷ l) = omega (arith, one-most (isFrom n v), count-most n l)
+
+pub room : (lastA lastB : ℕ) (l : List Vehicle) → length l < 24 → Room (surveyOf lastA lastB l)
+room lastA lastB l h = record { a = omega (arith, count-most 1 l); b = omega (arith, count-most 2 l) }
+
+-- a choice by `&` and `|`
+pub either : (b x y : Bool) → (b && x || not b && y) ≡ cond b x y
+either true true y = refl
+either true false y = refl
+either false x y = refl

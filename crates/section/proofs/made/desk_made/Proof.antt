@@ -1,0 +1,15 @@
+-- `made::desk_made` meets its contract: the code joins the definition's tests in its order.
+-- Assumes nothing.
+use borrow.Author.Needs.{needs}
+use mathlib.Core.Bool.{and-assoc, and-true}
+use Rattle.section.proofs.made.desk_made.Statement.{statement}
+use Rattle.section.proofs.made.desk_made.Tie as tie
+
+is-not-later-requires : tie.Need-is-not-later-requires
+is-not-later-requires c κs = search needs
+
+returns : tie.Need-returns
+returns c = rw (c .before .is-not-later .ensures) (simp (and-assoc, and-true))
+
+pub desk-made-spec : {M : Type 1} → statement M
+desk-made-spec = tie.close (tie.spec is-not-later-requires returns)

@@ -1,0 +1,15 @@
+-- `made::is_fresh` meets its contract: the code joins the definition's tests in its order.
+-- Assumes nothing.
+use borrow.Author.Needs.{needs}
+use mathlib.Core.Bool.{and-assoc, and-true}
+use Rattle.section.proofs.made.is_fresh.Statement.{statement}
+use Rattle.section.proofs.made.is_fresh.Tie as tie
+
+is-stopped-requires : tie.Need-is-stopped-requires
+is-stopped-requires c κs = search needs
+
+returns : tie.Need-returns
+returns c = simp (and-assoc, and-true) (rw (c .before .before .before .before .before .is-stopped .ensures))
+
+pub is-fresh-spec : {M : Type 1} → statement M
+is-fresh-spec = tie.close (tie.spec is-stopped-requires returns)

@@ -1,0 +1,15 @@
+-- `vehicles::is_blank` meets its contract: the code joins the definition's tests in its order.
+-- Assumes nothing.
+use borrow.Author.Needs.{needs}
+use mathlib.Core.Bool.{and-assoc, and-true}
+use Rattle.section.proofs.vehicles.is_blank.Statement.{statement}
+use Rattle.section.proofs.vehicles.is_blank.Tie as tie
+
+is-blank-movement-requires : tie.Need-is-blank-movement-requires
+is-blank-movement-requires c κs = search needs
+
+returns : tie.Need-returns
+returns c = simp (and-assoc, and-true) (rw (c .before .before .before .before .before .is-blank-movement .ensures))
+
+pub is-blank-spec : {M : Type 1} → statement M
+is-blank-spec = tie.close (tie.spec is-blank-movement-requires returns)

@@ -1,0 +1,18 @@
+-- `vehicles::is_shaped` meets its contract: the code joins the definition's tests in its order.
+-- Assumes nothing.
+use borrow.Author.Needs.{needs}
+use mathlib.Core.Bool.{and-assoc, and-true}
+use Rattle.section.proofs.vehicles.is_shaped.Statement.{statement}
+use Rattle.section.proofs.vehicles.is_shaped.Tie as tie
+
+is-opener-requires : tie.Need-is-opener-requires
+is-opener-requires c κs = search needs
+
+movement-made-requires : tie.Need-movement-made-requires
+movement-made-requires c κs = search needs
+
+returns : tie.Need-returns
+returns c = rw (c .movement-made .ensures, c .before .before .is-opener .ensures) (simp (and-assoc, and-true))
+
+pub is-shaped-spec : {M : Type 1} → statement M
+is-shaped-spec = tie.close (tie.spec is-opener-requires movement-made-requires returns)

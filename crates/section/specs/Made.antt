@@ -1,0 +1,73 @@
+-- What one pass over the vehicles finds, and a desk beside it: the clauses of `wellMade` in the groups in which the code tests them.
+use Prim.Native.Nat.{ℕ, _+_, _<_}
+use mathlib.Core.Bool.{Bool, not, cond, _&&_}
+use mathlib.Core.List.{List, [], _∷_}
+use lib.Dec.{leb}
+use Rattle.section.specs.declared.made.Survey.{Survey}
+use Rattle.section.specs.declared.made.Tally.{Tally}
+use Rattle.working.specs.declared.Desk.{Desk}
+use Rattle.working.specs.declared.Movement.{Movement}
+use Rattle.working.specs.declared.Vehicle.{Vehicle}
+use Rattle.working.specs.Entries.{every}
+use Rattle.working.specs.WellMade.{all, isFrom, movementTests, shaped, ordered, same, isBlank, oneIf, countFrom, numbered, notLater}
+
+-- class, asked and granted are in the ranges of what the vehicle left on
+abbrev pub movementMade : Movement → ℕ → Bool
+movementMade movement class = every (movementTests movement class)
+
+-- "unused places are zero"
+abbrev pub allBlank : List Vehicle → Bool
+allBlank l = all isBlank l
+
+-- v differs from each of l in sender or form number
+abbrev pub differsFrom : Vehicle → List Vehicle → Bool
+differsFrom v l = all (λ w. not (same v w)) l
+
+-- ---- the pass over the vehicles
+
+-- the vehicles of station number n among l, whose desk's last form number is last; and with one more in front of them
+abbrev pub tallyOf : ℕ → ℕ → List Vehicle → Tally
+tallyOf n last l = record { count = countFrom n l; numbered = all (numbered n last) l }
+
+abbrev pub counted : ℕ → ℕ → Vehicle → Tally → Tally
+counted n last v t = record { count = oneIf (isFrom n v) + t .count; numbered = numbered n last v && t .numbered }
+
+-- what is found of the vehicles l; and with one more in front of them
+abbrev pub surveyOf : ℕ → ℕ → List Vehicle → Survey
+surveyOf lastA lastB l = record {
+  shaped = all shaped l;
+  ordered = ordered l;
+  alone = all (isFrom 2) l;
+  a = tallyOf 1 lastA l;
+  b = tallyOf 2 lastB l;
+}
+
+abbrev pub seen : ℕ → ℕ → Vehicle → Survey → Survey
+seen lastA lastB v s = record {
+  shaped = shaped v && s .shaped;
+  ordered = cond (isFrom 1 v) (s .ordered) (isFrom 2 v && s .alone);
+  alone = isFrom 2 v && s .alone;
+  a = counted 1 lastA v (s .a);
+  b = counted 2 lastB v (s .b);
+}
+
+-- one more vehicle can be counted
+pub record Room (s : Survey) : Type 0 where
+  pub a : s .a .count < 24
+  pub b : s .b .count < 24
+
+-- ---- a desk beside its tally
+
+abbrev pub deskMadeWith : Desk → Tally → Bool
+deskMadeWith d t =
+    every
+    (leb (d .last) 9999
+    ∷ leb (d .sent) 12
+    ∷ leb (t .count) (d .sent)
+    ∷ leb (d .guest) 5
+    ∷ leb (d .asked) 8
+    ∷ leb (d .holds) 8
+    ∷ leb (d .owes) 8
+    ∷ notLater (d .interval) (d .clock)
+    ∷ t .numbered
+    ∷ [])

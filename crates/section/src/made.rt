@@ -1,0 +1,189 @@
+// The test that a section is well made: one pass over the vehicles present, one over the unused places, the form numbers, then the desks.
+// The passes go from B's end to A's, as the definitions do, and pass no place by: a section is nearly always well made.
+ghost use mathlib.Core.Path.{_≡_};
+ghost use Prim.Native.Nat.{_≤_, _<_};
+ghost use lib.ListN.{drop, take};
+ghost use Rattle.section.specs.Made.{Room, allBlank, counted, deskMadeWith, differsFrom, seen, surveyOf};
+ghost use Rattle.working.specs.WellMade.{differ, isFreshDesk, isStopped, notLater, oneIf, wellMade};
+use crate::vehicles::is_blank;
+use crate::vehicles::is_same;
+use crate::vehicles::is_shaped;
+use working::Desk;
+use working::Interval;
+use working::Section;
+use working::Vehicle;
+
+// A station's vehicles among those passed: how many, and whether their form numbers are 1 to the desk's last.
+pub struct Tally {
+    pub count: u8,
+    pub numbered: bool,
+}
+
+// The vehicles passed: whether each is shaped, whether A's all stand nearer A than B's, whether all are B's, and each station's tally.
+pub struct Survey {
+    pub shaped: bool,
+    pub ordered: bool,
+    pub alone: bool,
+    pub a: Tally,
+    pub b: Tally,
+}
+
+fn one_if(test: bool) -> u8
+    ensures { λ r. ⌜ r ≡ oneIf test ⌝ }
+{
+    if test { 1 } else { 0 }
+}
+
+// The tally of station number `sender` with one more vehicle.
+fn counted(sender: u8, last: u16, v: Vehicle, t: Tally) -> Tally
+    requires { ⌜ t .count < 24 ⌝ }
+    ensures { λ r. ⌜ r ≡ counted sender last v t ⌝ }
+{
+    let sent = v.sender == sender;
+    Tally {
+        count: one_if(sent) + t.count,
+        numbered: (!sent | ((1 <= v.form) & (v.form <= last))) & t.numbered,
+    }
+}
+
+// The survey with one more vehicle, nearer A than all others.
+fn seen(v: Vehicle, last_a: u16, last_b: u16, s: Survey) -> Survey
+    requires { ⌜ Room s ⌝ }
+    ensures { λ r. ⌜ r ≡ seen «last_a» «last_b» v s ⌝ }
+{
+    let a = s.a;
+    let b = s.b;
+    let alone = (v.sender == 2) & s.alone;
+    let of_a = v.sender == 1;
+    Survey {
+        shaped: is_shaped(v) & s.shaped,
+        ordered: (of_a & s.ordered) | (!of_a & alone),
+        alone: alone,
+        a: counted(1, last_a, v, a),
+        b: counted(2, last_b, v, b),
+    }
+}
+
+// The one pass over the vehicles present.
+fn survey_of(places: [Vehicle; 24], len: usize, last_a: u16, last_b: u16) -> Survey
+    requires { ⌜ len ≤ 24 ⌝ }
+    ensures { λ r. ⌜ r ≡ surveyOf «last_a» «last_b» (take len places) ⌝ }
+{
+    let none = Tally {
+        count: 0,
+        numbered: true,
+    };
+    let mut line = Survey {
+        shaped: true,
+        ordered: true,
+        alone: true,
+        a: none,
+        b: none,
+    };
+    let mut i = len;
+    while 0 < i {
+        i -= 1;
+        line = seen(places[i], last_a, last_b, line);
+    }
+    line
+}
+
+// Whether the places from `from` on are unused.
+fn blank_from(places: [Vehicle; 24], from: usize) -> bool
+    requires { ⌜ from ≤ 24 ⌝ }
+    ensures { λ r. ⌜ r ≡ allBlank (drop from places) ⌝ }
+{
+    let mut blank = true;
+    let mut i = Section::PLACES;
+    while from < i {
+        i -= 1;
+        blank = is_blank(places[i]) & blank;
+    }
+    blank
+}
+
+// Whether `v` differs in sender or form number from each vehicle present from place `from` on.
+fn differs_from(places: [Vehicle; 24], from: usize, len: usize, v: Vehicle) -> bool
+    requires { ⌜ (from ≤ len) × (len ≤ 24) ⌝ }
+    ensures { λ r. ⌜ r ≡ differsFrom v (drop from (take len places)) ⌝ }
+{
+    let mut differs = true;
+    let mut i = len;
+    while from < i {
+        i -= 1;
+        differs = !is_same(v, places[i]) & differs;
+    }
+    differs
+}
+
+// Whether form numbers differ among one sender's vehicles.
+fn forms_differ(places: [Vehicle; 24], len: usize) -> bool
+    requires { ⌜ len ≤ 24 ⌝ }
+    ensures { λ r. ⌜ r ≡ differ (take len places) ⌝ }
+{
+    let mut differ = true;
+    let mut i = len;
+    while 0 < i {
+        let next = i;
+        i -= 1;
+        differ = differs_from(places, next, len, places[i]) & differ;
+    }
+    differ
+}
+
+fn is_not_later(interval: Interval, clock: u16) -> bool
+    ensures { λ r. ⌜ r ≡ notLater interval clock ⌝ }
+{
+    match interval {
+        Interval::Stopped => true,
+        Interval::Since(minute) => minute <= clock,
+    }
+}
+
+// Whether a desk is well made beside the tally of its station's vehicles.
+fn desk_made(d: Desk, t: Tally) -> bool
+    ensures { λ r. ⌜ r ≡ deskMadeWith d t ⌝ }
+{
+    let interval = d.interval;
+    let sent = (d.last <= Desk::LAST_FORM) & (d.sent <= Desk::MOST_SENT) & (t.count <= d.sent);
+    let clears = (d.guest <= 5) & (d.asked <= 8) & (d.holds <= 8) & (d.owes <= 8);
+    sent & clears & is_not_later(interval, d.clock) & t.numbered
+}
+
+fn is_stopped(interval: Interval) -> bool
+    ensures { λ r. ⌜ r ≡ isStopped interval ⌝ }
+{
+    match interval {
+        Interval::Stopped => true,
+        Interval::Since(_) => false,
+    }
+}
+
+fn is_fresh(d: Desk) -> bool
+    ensures { λ r. ⌜ r ≡ isFreshDesk d ⌝ }
+{
+    let interval = d.interval;
+    let unused = (d.clock == 0) & (d.last == 0) & (d.sent == 0) & is_stopped(interval);
+    let clears = (d.guest == 0) & (d.asked == 0) & (d.holds == 0) & (d.owes == 0);
+    unused & !d.out & clears
+}
+
+// Whether a section is well made: clause by clause, in document 01's order, of any value.
+pub fn well_made(s: Section) -> bool
+    ensures { λ r. ⌜ r ≡ wellMade s ⌝ }
+{
+    let len = s.len;
+    if Section::PLACES < len {
+        return false;
+    }
+    let places = s.vehicles;
+    let a = s.a;
+    let b = s.b;
+    let line = survey_of(places, len, a.last, b.last);
+    let of_a = line.a;
+    let of_b = line.b;
+    let vehicles = blank_from(places, len) & line.shaped & line.ordered & forms_differ(places, len);
+    let desks = desk_made(a, of_a) & desk_made(b, of_b);
+    let idle = (len == 0) & is_fresh(a) & is_fresh(b);
+    vehicles & desks & (s.force | idle)
+}

@@ -1,0 +1,23 @@
+// The two stations.
+ghost use mathlib.Core.Path.{_≡_};
+ghost use Rattle.working.specs.Sections.{numberAt, otherAt};
+use working::Station;
+
+// Station 1 is A, 2 is B.
+pub fn station_number(at: Station) -> u8
+    ensures { λ r. ⌜ r ≡ numberAt at ⌝ }
+{
+    match at {
+        Station::A => 1,
+        Station::B => 2,
+    }
+}
+
+pub fn other(at: Station) -> Station
+    ensures { λ r. ⌜ r ≡ otherAt at ⌝ }
+{
+    match at {
+        Station::A => Station::B,
+        Station::B => Station::A,
+    }
+}

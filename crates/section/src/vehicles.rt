@@ -1,0 +1,98 @@
+// One vehicle: what it left on, whose it is, and whether its record is well made.
+ghost use mathlib.Core.Path.{_≡_};
+ghost use Rattle.section.specs.Made.{movementMade};
+ghost use Rattle.working.specs.Reasons.{isNamed};
+ghost use Rattle.working.specs.WellMade.{isBlank, isBlankMovement, isOpener, same, shaped};
+use crate::stations::station_number;
+use working::Movement;
+use working::Station;
+use working::Vehicle;
+
+// OPEN or THROUGH.
+pub fn is_opener(movement: Movement) -> bool
+    ensures { λ r. ⌜ r ≡ isOpener movement ⌝ }
+{
+    match movement {
+        Movement::Open { asked: _ } => true,
+        Movement::Through => true,
+        Movement::Return {
+            asked: _,
+            granted: _,
+        } => false,
+        Movement::Train {
+            asked: _,
+            granted: _,
+        } => false,
+    }
+}
+
+// Whether `v` is the vehicle that an entry names by its sender and form number.
+pub fn is_named(sender: Station, form: u16, v: Vehicle) -> bool
+    ensures { λ r. ⌜ r ≡ isNamed sender form v ⌝ }
+{
+    (v.sender == station_number(sender)) & (v.form == form)
+}
+
+// Whether two vehicles have one sender and one form number.
+pub(crate) fn is_same(v: Vehicle, w: Vehicle) -> bool
+    ensures { λ r. ⌜ r ≡ same v w ⌝ }
+{
+    (v.sender == w.sender) & (v.form == w.form)
+}
+
+// Whether the class, asked and granted of a vehicle are in the ranges of what it left on.
+pub(crate) fn movement_made(movement: Movement, class: u8) -> bool
+    ensures { λ r. ⌜ r ≡ movementMade movement class ⌝ }
+{
+    match movement {
+        Movement::Open { asked } => (1 <= class) & (class <= 5) & (1 <= asked) & (asked <= 8),
+        Movement::Through => class == 1,
+        Movement::Return { asked, granted } => (1 <= class)
+            & (class <= 5)
+            & (asked <= 8)
+            & (granted <= 8),
+        Movement::Train { asked, granted } => (class == 0) & (asked <= 8) & (granted <= 8),
+    }
+}
+
+// Whether a vehicle's record is one that a vehicle in the section may have.
+pub(crate) fn is_shaped(v: Vehicle) -> bool
+    ensures { λ r. ⌜ r ≡ shaped v ⌝ }
+{
+    let movement = v.movement;
+    let sent = (v.sender == 1) | (v.sender == 2);
+    let headed = (v.heading == 1) | (v.heading == 2);
+    let away = v.met | !(v.heading == v.sender);
+    let unmet = is_opener(movement) | !v.met;
+    sent & headed & away & unmet & movement_made(movement, v.class)
+}
+
+pub(crate) fn is_blank_movement(movement: Movement) -> bool
+    ensures { λ r. ⌜ r ≡ isBlankMovement movement ⌝ }
+{
+    match movement {
+        Movement::Open { asked } => asked == 0,
+        Movement::Through => false,
+        Movement::Return {
+            asked: _,
+            granted: _,
+        } => false,
+        Movement::Train {
+            asked: _,
+            granted: _,
+        } => false,
+    }
+}
+
+// Whether a place is unused: zero in every figure.
+pub(crate) fn is_blank(v: Vehicle) -> bool
+    ensures { λ r. ⌜ r ≡ isBlank v ⌝ }
+{
+    let movement = v.movement;
+    is_blank_movement(movement)
+        & (v.sender == 0)
+        & (v.form == 0)
+        & (v.heading == 0)
+        & !v.met
+        & (v.class == 0)
+}

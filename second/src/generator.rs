@@ -1,0 +1,760 @@
+//! Random logs that a working section could have seen.
+//!
+//! The generator keeps a section of its own beside the log and looks at it
+//! before each entry: which vehicle stands nearest, who holds a line clear, how
+//! long the interval still runs. Most entries are therefore accepted and lead
+//! into states that blind chance would not find. Among them it strews entries
+//! spoiled in one figure, entries made without looking, and bytes that are no
+//! entry.
+
+use crate::entry::{bit, encode, entry_length, laid_out, Entry, Kind, LONGEST_ENTRY};
+use crate::random::Random;
+use crate::section::{Desk, Section, Station, Vehicle};
+use crate::step::step_in_place;
+
+/// How a log is to be made.
+#[derive(Clone, Copy, Debug, Default, PartialEq, Eq)]
+pub struct Options {
+    /// Only entries that the section accepts, and no cut end.
+    pub accepted: bool,
+    /// Keep the section as full of vehicles as it goes.
+    pub full: bool,
+    /// Use up nearly all form numbers of one station first. This takes some
+    /// 160,000 bytes, which come on top of the entries wished for.
+    pub worn: bool,
+    /// End the log at so many bytes, inside an entry if need be; where only
+    /// accepted entries are wished for, before an entry that would be cut.
+    pub bytes: Option<usize>,
+}
+
+/// A log of so many entries; the same for the same arguments.
+#[must_use]
+pub fn log(seed: u64, entries: usize, options: Options) -> Vec<u8> {
+    let mut generator = Generator::new(seed, options);
+    let mut log = Vec::new();
+    if options.worn {
+        generator.wear_out_forms(&mut log);
+    }
+    let limit = options.bytes.unwrap_or(usize::MAX);
+    for left in (0..entries).rev() {
+        if log.len() >= limit {
+            break;
+        }
+        let next = if left == 0 && generator.ends_cut() {
+            generator.cut_entry()
+        } else {
+            generator.next_entry()
+        };
+        if options.accepted && log.len() + next.len() > limit {
+            break;
+        }
+        log.extend(next);
+    }
+    log.truncate(limit);
+    log
+}
+
+/// What the traffic tends to for a while. The figures are weights, by the
+/// number of the kind, with which an acceptable entry of that kind is taken.
+type Mood = [u32; 9];
+
+const EVEN: Mood = [0, 10, 6, 6, 8, 10, 14, 2, 1];
+const FLOW: Mood = [0, 10, 8, 0, 30, 24, 30, 1, 0];
+const FILLING: Mood = [0, 10, 3, 30, 3, 16, 2, 1, 0];
+const MEETING: Mood = [0, 10, 16, 10, 2, 2, 8, 6, 0];
+const DRAINING: Mood = [0, 10, 0, 0, 3, 0, 20, 2, 3];
+const MOODS: [Mood; 6] = [EVEN, FLOW, FLOW, FILLING, MEETING, DRAINING];
+
+/// The clock from which the traffic is brought to an end, so that a new
+/// working can start at minute 0.
+const LATE: u16 = 60_000;
+
+/// Makes one entry after another.
+#[derive(Clone, Debug)]
+pub struct Generator {
+    random: Random,
+    section: Section,
+    options: Options,
+    mood: Mood,
+    mood_lasts: u32,
+}
+
+impl Generator {
+    /// A generator that starts from the fresh section.
+    #[must_use]
+    pub fn new(seed: u64, options: Options) -> Generator {
+        Generator::at(Section::fresh(), seed, options)
+    }
+
+    /// A generator that starts from a section already worked.
+    #[must_use]
+    pub fn at(section: Section, seed: u64, options: Options) -> Generator {
+        Generator {
+            random: Random::new(seed),
+            section,
+            options,
+            mood: EVEN,
+            mood_lasts: 0,
+        }
+    }
+
+    /// The section after the entries made so far.
+    #[must_use]
+    pub fn section(&self) -> &Section {
+        &self.section
+    }
+
+    /// The bytes of one more entry of a log, whole though perhaps refused.
+    pub fn next_entry(&mut self) -> Vec<u8> {
+        let bytes = self.whole_bytes();
+        // Whether it is accepted is for those to see who read the log.
+        let _ = step_in_place(&mut self.section, &bytes);
+        bytes
+    }
+
+    /// The bytes of one more step of a list, in which, other than in a log,
+    /// cut bytes may stand anywhere.
+    pub fn next_step(&mut self) -> Vec<u8> {
+        if self.options.accepted || !self.random.chance(1) {
+            return self.next_entry();
+        }
+        let bytes = if self.random.chance(30) {
+            Vec::new()
+        } else {
+            self.cut_entry()
+        };
+        let _ = step_in_place(&mut self.section, &bytes);
+        bytes
+    }
+
+    fn desk(&self, station: Station) -> Desk {
+        *self.section.desk(station)
+    }
+
+    fn whole_bytes(&mut self) -> Vec<u8> {
+        if self.options.accepted {
+            return bytes_of(&self.likely_entry());
+        }
+        match self.random.below(100) {
+            0..=4 => self.no_entry(),
+            5..=12 => bytes_of(&self.spoiled_entry()),
+            13..=19 => bytes_of(&self.blind_entry()),
+            _ => bytes_of(&self.likely_entry()),
+        }
+    }
+
+    fn ends_cut(&mut self) -> bool {
+        !self.options.accepted && self.random.chance(30)
+    }
+
+    /// The first bytes of an entry, at least one of them and never all.
+    fn cut_entry(&mut self) -> Vec<u8> {
+        let mut bytes = bytes_of(&self.blind_entry());
+        let kept = self.random.between(1, bytes.len() as u16 - 1);
+        bytes.truncate(kept.into());
+        bytes
+    }
+
+    /// An entry that the section accepts, chosen by the mood of the traffic.
+    fn likely_entry(&mut self) -> Entry {
+        self.change_mood();
+        let mut candidates = Vec::with_capacity(16);
+        for kind in Kind::ALL {
+            for station in Station::BOTH {
+                candidates.extend(self.candidate(kind, station));
+            }
+        }
+        candidates.retain(|(entry, _)| self.is_accepted(entry));
+        self.pick_by_weight(&candidates)
+            .unwrap_or_else(|| self.blind_entry())
+    }
+
+    fn change_mood(&mut self) {
+        if self.options.full && !self.is_late() {
+            self.mood = FILLING;
+            return;
+        }
+        let drained = self.mood == DRAINING && self.section.present == 0;
+        if self.mood_lasts == 0 || (drained && self.random.chance(90)) {
+            self.mood = self.random.pick(&MOODS);
+            self.mood_lasts = 20 + self.random.below(100);
+        }
+        self.mood_lasts -= 1;
+    }
+
+    fn is_late(&self) -> bool {
+        self.section.desks.iter().any(|desk| desk.clock > LATE)
+    }
+
+    fn candidate(&mut self, kind: Kind, station: Station) -> Option<(Entry, u32)> {
+        let entry = match kind {
+            // These belong to no station and are proposed once.
+            Kind::Begin | Kind::Resume if station == Station::B => return None,
+            Kind::Resume if self.options.worn => return None,
+            Kind::Begin => Entry::begin(),
+            Kind::Resume => Entry::resume(),
+            Kind::Receive => self.receipt(station)?,
+            Kind::Meet => self.meeting(station)?,
+            _ => self.departure(kind, station),
+        };
+        Some((entry, self.weight(kind, &entry)))
+    }
+
+    fn weight(&self, kind: Kind, entry: &Entry) -> u32 {
+        let late = self.is_late() && !self.options.worn;
+        let mood = if late { &DRAINING } else { &self.mood };
+        let weight = mood[usize::from(kind.number())];
+        let full = self.section.present == Section::MOST_VEHICLES;
+        match kind {
+            // A full section shows something only when it moves.
+            Kind::Receive if full => 20,
+            Kind::Meet if full => 3,
+            // Two openers at once seldom reach the other end.
+            Kind::Open if self.mood == FLOW && self.opener_away() => 1,
+            // An opener taken back opens nothing, and nothing stands in its way.
+            Kind::Receive if entry.station == entry.sender && self.one_way() => weight.div_ceil(8),
+            _ => weight,
+        }
+    }
+
+    /// Whether all vehicles present come from one station.
+    fn one_way(&self) -> bool {
+        let ends = Station::BOTH.map(|station| self.section.nearest(station));
+        ends[0].map(|vehicle| vehicle.sender) == ends[1].map(|vehicle| vehicle.sender)
+    }
+
+    fn opener_away(&self) -> bool {
+        self.section.desks.iter().any(|desk| desk.out)
+    }
+
+    fn is_accepted(&self, entry: &Entry) -> bool {
+        let mut section = self.section.clone();
+        step_in_place(&mut section, &bytes_of(entry)).is_ok()
+    }
+
+    /// One of the candidates; where the mood wants none of them, any.
+    fn pick_by_weight(&mut self, candidates: &[(Entry, u32)]) -> Option<Entry> {
+        let total = candidates.iter().map(|(_, weight)| weight).sum();
+        let mut drawn = self.random.below(total);
+        for &(entry, weight) in candidates {
+            if drawn < weight {
+                return Some(entry);
+            }
+            drawn -= weight;
+        }
+        if candidates.is_empty() {
+            return None;
+        }
+        Some(self.random.pick(candidates).0)
+    }
+
+    /// The receipt of the vehicle nearest this station.
+    fn receipt(&mut self, station: Station) -> Option<Entry> {
+        let nearest = *self.section.nearest(station)?;
+        let time = self.later_than(self.desk(station).clock);
+        Some(Entry::receive(station, time, nearest.sender?, nearest.form))
+    }
+
+    /// A meeting of two neighbours that head towards one another.
+    fn meeting(&mut self, station: Station) -> Option<Entry> {
+        let pairs = self.section.vehicles().windows(2);
+        let opposed = |pair: &&[Vehicle]| {
+            pair[0].heading == Some(Station::B) && pair[1].heading == Some(Station::A)
+        };
+        let nearer_a: Vec<Vehicle> = pairs.filter(opposed).map(|pair| pair[0]).collect();
+        if nearer_a.is_empty() {
+            return None;
+        }
+        let named = self.random.pick(&nearer_a);
+        Some(Entry::meet(station, named.sender?, named.form))
+    }
+
+    fn departure(&mut self, kind: Kind, station: Station) -> Entry {
+        let desk = self.desk(station);
+        let time = self.departure_time(&desk);
+        let view = self.random.small(1, 3);
+        match kind {
+            Kind::Open => {
+                let class = self.random.small(1, 5);
+                let asked = self.some_trains();
+                Entry::open(station, time, view, class, asked)
+            }
+            Kind::Through => Entry::through(station, time, view),
+            Kind::Return => {
+                let asked = self.perhaps_some_trains();
+                let granted = self.reply(desk.asked);
+                Entry::send_back(station, time, asked, granted)
+            }
+            _ => {
+                let last_of_series = desk.holds <= 1;
+                let asked = self.perhaps_some_trains();
+                let granted = if last_of_series {
+                    self.reply(desk.asked)
+                } else {
+                    0
+                };
+                Entry::train(station, time, view, asked, granted)
+            }
+        }
+    }
+
+    /// As soon as the clock and the interval let a vehicle go, or later.
+    fn departure_time(&mut self, desk: &Desk) -> u16 {
+        let interval_over = desk
+            .interval
+            .map_or(0, |started| started.saturating_add(Section::INTERVAL));
+        self.later_than(desk.clock.max(interval_over))
+    }
+
+    fn later_than(&mut self, earliest: u16) -> u16 {
+        let delay = match self.random.below(3_000) {
+            0..=1_799 => 0,
+            1_800..=2_969 => self.random.between(1, 9),
+            2_970..=2_997 => self.random.between(10, 400),
+            2_998 => self.random.between(0, u16::MAX),
+            // The clock's last minute, after which nothing follows.
+            _ => u16::MAX,
+        };
+        earliest.saturating_add(delay)
+    }
+
+    fn some_trains(&mut self) -> u8 {
+        if self.random.chance(25) {
+            Section::MOST_CLEARS
+        } else {
+            self.random.small(1, Section::MOST_CLEARS)
+        }
+    }
+
+    fn perhaps_some_trains(&mut self) -> u8 {
+        if self.random.chance(50) {
+            self.some_trains()
+        } else {
+            0
+        }
+    }
+
+    /// Line clears for some of those asked for, mostly for all of them.
+    fn reply(&mut self, asked: u8) -> u8 {
+        match self.random.below(10) {
+            0..=5 => asked,
+            6..=7 => self.random.small(0, asked),
+            _ => 0,
+        }
+    }
+
+    /// A likely entry with one figure altered to its edge or beyond it.
+    fn spoiled_entry(&mut self) -> Entry {
+        let entry = self.likely_entry();
+        let Some(station) = Station::from_number(entry.station) else {
+            return self.blind_entry();
+        };
+        let desk = self.desk(station);
+        let mut spoiled = vec![Entry {
+            station: station.other().number(),
+            ..entry
+        }];
+        if entry.map & bit::TIME != 0 {
+            for time in [
+                desk.clock.saturating_sub(1),
+                just_before_interval_ends(&desk),
+            ] {
+                spoiled.push(Entry { time, ..entry });
+            }
+        }
+        if entry.kind == Kind::Return.number() || entry.kind == Kind::Train.number() {
+            spoiled.push(Entry {
+                map: entry.map | bit::GRANTED,
+                granted: (desk.asked + 1).min(Section::MOST_CLEARS),
+                ..entry
+            });
+        }
+        if entry.map & bit::FORM != 0 {
+            let form = self.neighbouring_form(entry.form);
+            spoiled.push(Entry { form, ..entry });
+            let sender = 3 - entry.sender;
+            spoiled.push(Entry { sender, ..entry });
+        }
+        self.random.pick(&spoiled)
+    }
+
+    fn neighbouring_form(&mut self, form: u16) -> u16 {
+        let neighbour = if self.random.chance(50) {
+            form + 1
+        } else {
+            form - 1
+        };
+        neighbour.clamp(1, Section::LAST_FORM)
+    }
+
+    /// An entry with every field in its range, at a time not long after the
+    /// clock, made without regard to what the section allows.
+    fn blind_entry(&mut self) -> Entry {
+        if let Some(entry) = self.hurried_departure() {
+            return entry;
+        }
+        let station = self.random.pick(&Station::BOTH);
+        match self.random.pick(&Kind::ALL) {
+            Kind::Begin => Entry::begin(),
+            Kind::Resume if self.may_end() => Entry::resume(),
+            Kind::Receive => {
+                let time = self.later_than(self.desk(station).clock);
+                let (sender, form) = self.some_name();
+                Entry::receive(station, time, sender, form)
+            }
+            Kind::Meet => {
+                let (sender, form) = self.some_name();
+                Entry::meet(station, sender, form)
+            }
+            Kind::Return | Kind::Resume => {
+                let time = self.departure_time(&self.desk(station));
+                let asked = self.perhaps_some_trains();
+                let granted = self.perhaps_some_trains();
+                Entry::send_back(station, time, asked, granted)
+            }
+            Kind::Train => {
+                let time = self.departure_time(&self.desk(station));
+                let view = self.random.small(1, 3);
+                let asked = self.perhaps_some_trains();
+                let granted = self.perhaps_some_trains();
+                Entry::train(station, time, view, asked, granted)
+            }
+            kind => self.departure(kind, station),
+        }
+    }
+
+    /// A guest is soon sent back, so what a master may not do while one stands
+    /// at his station has to be tried at once.
+    fn hurried_departure(&mut self) -> Option<Entry> {
+        let station = Station::BOTH
+            .into_iter()
+            .find(|&station| self.desk(station).guest > 0)?;
+        if self.random.chance(30) {
+            return None;
+        }
+        let kind = self.random.pick(&[Kind::Open, Kind::Through, Kind::Train]);
+        Some(self.departure(kind, station))
+    }
+
+    /// Deep states would be lost too often if every blind RESUME that finds
+    /// the section empty were let through.
+    fn may_end(&mut self) -> bool {
+        self.section.present > 0 || (!self.options.worn && self.random.chance(10))
+    }
+
+    /// Mostly the name of a vehicle present.
+    fn some_name(&mut self) -> (Station, u16) {
+        let vehicles = self.section.vehicles();
+        if !vehicles.is_empty() && self.random.chance(80) {
+            let named = self.random.pick(vehicles);
+            if let Some(sender) = named.sender {
+                return (sender, named.form);
+            }
+        }
+        let sender = self.random.pick(&Station::BOTH);
+        let last = self.section.desk(sender).last_form;
+        let form = self.random.between(1, last.max(1));
+        (sender, form)
+    }
+
+    /// Bytes as long as their map says that are no entry.
+    fn no_entry(&mut self) -> Vec<u8> {
+        match self.random.below(5) {
+            0 => vec![0],
+            1 => self.any_bytes(),
+            2 => self.with_another_kind(),
+            3 => self.with_another_map(),
+            _ => self.with_a_bad_field(),
+        }
+    }
+
+    fn any_bytes(&mut self) -> Vec<u8> {
+        let map = self.random.byte();
+        let mut bytes = vec![map];
+        bytes.resize_with(entry_length(map), || self.random.byte());
+        bytes
+    }
+
+    fn with_another_kind(&mut self) -> Vec<u8> {
+        let mut bytes = bytes_of(&self.blind_entry());
+        let other_kind = self.random.byte();
+        bytes[1] = self.random.pick(&[0, 9, u8::MAX, other_kind]);
+        bytes
+    }
+
+    /// One bit of the map too many or too few, the fields following the map.
+    fn with_another_map(&mut self) -> Vec<u8> {
+        let mut bytes = bytes_of(&self.blind_entry());
+        bytes[0] ^= 1 << self.random.below(8);
+        let length = entry_length(bytes[0]);
+        bytes.resize_with(length, || self.random.small(0, 8));
+        bytes
+    }
+
+    /// One field just outside its range, or far outside.
+    fn with_a_bad_field(&mut self) -> Vec<u8> {
+        let mut entry = self.blind_entry();
+        let far = self.random.small(10, u8::MAX);
+        let mut outside = |last: u8| self.random.pick(&[0, 0, last + 1, last + 1, far]);
+        let wrong = Entry {
+            station: outside(2),
+            view: outside(3),
+            class: outside(if entry.kind == Kind::Through.number() {
+                1
+            } else {
+                5
+            }),
+            asked: outside(Section::MOST_CLEARS),
+            granted: outside(Section::MOST_CLEARS),
+            sender: outside(2),
+            ..entry
+        };
+        let form = self.random.between(Section::LAST_FORM + 1, u16::MAX);
+        let wrong_form = self.random.pick(&[0, Section::LAST_FORM + 1, form]);
+        let present: Vec<u32> = (0..8)
+            .filter(|place| entry.map & (1 << place) != 0)
+            .collect();
+        match self.random.pick(&present) {
+            1 => entry.station = wrong.station,
+            3 => entry.view = wrong.view,
+            4 => entry.class = wrong.class,
+            5 => entry.asked = wrong.asked,
+            6 => entry.granted = wrong.granted,
+            7 if self.random.chance(50) => entry.sender = wrong.sender,
+            7 => entry.form = wrong_form,
+            _ => entry.kind = 9,
+        }
+        laid_out(&entry)[..entry_length(entry.map)].to_vec()
+    }
+
+    /// Sends one opener out and takes it back until few form numbers are left.
+    fn wear_out_forms(&mut self, log: &mut Vec<u8>) {
+        let station = self.random.pick(&Station::BOTH);
+        let last = Section::LAST_FORM - self.random.between(0, 6);
+        self.enter(log, &Entry::begin());
+        for form in 1..=last {
+            let view = self.random.small(1, 3);
+            let class = self.random.small(1, 5);
+            let asked = self.some_trains();
+            self.enter(log, &Entry::open(station, 0, view, class, asked));
+            self.enter(log, &Entry::receive(station, 0, station, form));
+        }
+    }
+
+    fn enter(&mut self, log: &mut Vec<u8>, entry: &Entry) {
+        let bytes = bytes_of(entry);
+        let answer = step_in_place(&mut self.section, &bytes);
+        debug_assert!(answer.is_ok(), "{entry:?}: {answer:?}");
+        log.extend(bytes);
+    }
+}
+
+fn just_before_interval_ends(desk: &Desk) -> u16 {
+    desk.interval.map_or(desk.clock, |started| {
+        started.saturating_add(Section::INTERVAL - 1)
+    })
+}
+
+/// The bytes of an entry; of one that may not be written, none.
+fn bytes_of(entry: &Entry) -> Vec<u8> {
+    let mut buffer = [0; LONGEST_ENTRY];
+    let length = encode(entry, &mut buffer).unwrap_or(0);
+    debug_assert!(length > 0, "{entry:?}");
+    buffer[..length].to_vec()
+}
+
+/// Any well-made section, whether or not a log leads to it.
+#[must_use]
+pub fn any_section(random: &mut Random) -> Section {
+    let mut section = Section {
+        refused: random.pick(&[0, 1, u32::MAX - 1, u32::MAX]),
+        ..Section::fresh()
+    };
+    if random.chance(10) {
+        return section;
+    }
+    section.in_force = true;
+    for station in Station::BOTH {
+        let present = any_number_of_vehicles(random);
+        *section.desk_mut(station) = any_desk(random, present);
+        for form in any_forms(random, section.desk(station).last_form, present) {
+            section.put_in(station, any_vehicle(random, station, form));
+        }
+    }
+    section
+}
+
+fn any_number_of_vehicles(random: &mut Random) -> u8 {
+    match random.below(10) {
+        0..=2 => 0,
+        3..=7 => random.small(1, 3),
+        8 => random.small(1, Section::MOST_SENT),
+        _ => Section::MOST_SENT,
+    }
+}
+
+fn any_desk(random: &mut Random, present: u8) -> Desk {
+    let least_forms = u16::from(present);
+    let clock = random.between(0, u16::MAX);
+    let clock = random.pick(&[0, 40, clock, u16::MAX]);
+    Desk {
+        clock,
+        last_form: match random.below(4) {
+            0 => least_forms,
+            1 => Section::LAST_FORM - random.between(0, 1),
+            _ => random.between(least_forms, Section::LAST_FORM),
+        },
+        sent: match random.below(4) {
+            0 | 1 => present,
+            2 => random.small(present, Section::MOST_SENT),
+            _ => Section::MOST_SENT,
+        },
+        interval: random
+            .chance(50)
+            .then(|| clock - random.between(0, clock.min(60))),
+        out: random.chance(30),
+        guest: if random.chance(50) {
+            0
+        } else {
+            random.small(1, Section::MOST_CLASSES)
+        },
+        asked: any_figure(random),
+        holds: any_figure(random),
+        owes: any_figure(random),
+    }
+}
+
+/// 0 half the time, so that the tests behind it are reached as well.
+fn any_figure(random: &mut Random) -> u8 {
+    if random.chance(50) {
+        0
+    } else {
+        random.small(1, Section::MOST_CLEARS)
+    }
+}
+
+/// Different form numbers, in no order.
+fn any_forms(random: &mut Random, last: u16, wanted: u8) -> Vec<u16> {
+    let mut forms = Vec::new();
+    while forms.len() < usize::from(wanted) {
+        let form = random.between(1, last);
+        if !forms.contains(&form) {
+            forms.push(form);
+        }
+    }
+    forms
+}
+
+fn any_vehicle(random: &mut Random, sender: Station, form: u16) -> Vehicle {
+    let kind = random.pick(&[
+        Kind::Open,
+        Kind::Open,
+        Kind::Through,
+        Kind::Through,
+        Kind::Return,
+        Kind::Train,
+    ]);
+    let met = matches!(kind, Kind::Open | Kind::Through) && random.chance(40);
+    let (asked, granted) = match kind {
+        Kind::Open => (random.small(1, Section::MOST_CLEARS), 0),
+        Kind::Through => (0, 0),
+        _ => (any_figure(random), any_figure(random)),
+    };
+    Vehicle {
+        left_on: Some(kind),
+        sender: Some(sender),
+        form,
+        heading: Some(if met {
+            random.pick(&Station::BOTH)
+        } else {
+            sender.other()
+        }),
+        met,
+        class: match kind {
+            Kind::Open | Kind::Return => random.small(1, Section::MOST_CLASSES),
+            Kind::Through => 1,
+            _ => 0,
+        },
+        asked,
+        granted,
+    }
+}
+
+#[cfg(test)]
+mod tests {
+    use super::*;
+    use crate::log::Run;
+
+    #[test]
+    fn the_same_arguments_give_the_same_log() {
+        let options = Options::default();
+        assert_eq!(log(3, 200, options), log(3, 200, options));
+        assert_ne!(log(3, 200, options), log(4, 200, options));
+    }
+
+    #[test]
+    fn a_log_has_the_entries_wished_for() {
+        for seed in 0..20 {
+            for entries in [0, 1, 77] {
+                let log = log(seed, entries, Options::default());
+                assert_eq!(Run::new(&log).count(), entries, "seed {seed}");
+            }
+        }
+    }
+
+    #[test]
+    fn an_accepted_log_has_no_refusal() {
+        for seed in 0..10 {
+            for full in [false, true] {
+                let options = Options {
+                    accepted: true,
+                    full,
+                    ..Options::default()
+                };
+                let long = log(seed, 500, options);
+                assert_eq!(Run::new(&long).finish().refused, 0, "seed {seed}");
+                let short = Options {
+                    bytes: Some(1_001),
+                    ..options
+                };
+                let short = log(seed, 500, short);
+                assert!((990..=1_001).contains(&short.len()), "{}", short.len());
+                assert!(long.starts_with(&short));
+                assert_eq!(Run::new(&short).finish().refused, 0, "seed {seed}");
+            }
+        }
+    }
+
+    #[test]
+    fn a_log_ends_just_at_the_bytes_wished_for() {
+        for bytes in [0, 1, 100, 1_001] {
+            let options = Options {
+                bytes: Some(bytes),
+                ..Options::default()
+            };
+            assert_eq!(log(5, bytes, options).len(), bytes);
+        }
+    }
+
+    #[test]
+    fn any_section_is_well_made() {
+        let mut random = Random::new(1);
+        let mut fullest = 0;
+        for _ in 0..2_000 {
+            let section = any_section(&mut random);
+            assert!(section.is_well_made(), "{section:?}");
+            fullest = fullest.max(section.present);
+        }
+        assert_eq!(fullest, Section::MOST_VEHICLES);
+    }
+
+    #[test]
+    fn the_generator_keeps_the_section_of_its_own_log() {
+        let mut generator = Generator::new(11, Options::default());
+        let mut log = Vec::new();
+        for _ in 0..300 {
+            log.extend(generator.next_entry());
+        }
+        assert_eq!(&Run::new(&log).finish(), generator.section());
+    }
+}

@@ -1,0 +1,461 @@
+//! Long walks that hold the claims about lists of steps against themselves.
+//!
+//! A list starts from the fresh section, and each step gets the section that
+//! the step before it left. Three claims are tested:
+//!
+//! * two vehicles heading towards one another both left on T/B 602 at 15 km/h
+//!   or less, at the end of every list;
+//! * in force, the line clears owed by a station are those the other holds, the
+//!   other's trains in the section and the line clears on the way to the other;
+//! * two neighbours that are accepted, of different stations, no MEET, the
+//!   second not receiving what the first sent, may change places.
+//!
+//! What a vehicle left on is looked up in the list of entries and answers and
+//! not in the vehicle's own record. Every state of a walk is the end of a list,
+//! so the first two claims are tested after every step.
+
+use std::fmt;
+
+use crate::entry::{decode, Entry, Kind};
+use crate::generator::{Generator, Options};
+use crate::random::Random;
+use crate::section::{Section, Station, Vehicle};
+use crate::step::{form, step, step_in_place, Accepted, Answer, Speed};
+
+/// The longest list of a walk. Each swap reruns what is left of its list, so
+/// the time for a list grows with the square of its length.
+const LONGEST_LIST: u16 = 400;
+
+/// A way to step a section in its owner's memory.
+pub trait Stepper: Fn(&mut Section, &[u8]) -> Answer {}
+
+impl<T: Fn(&mut Section, &[u8]) -> Answer> Stepper for T {}
+
+/// One step of a list: what it was handed and what it answered.
+#[derive(Clone, Debug)]
+pub struct Step {
+    bytes: Vec<u8>,
+    entry: Option<Entry>,
+    answer: Answer,
+}
+
+impl Step {
+    /// Records a step.
+    #[must_use]
+    pub fn new(bytes: Vec<u8>, answer: Answer) -> Step {
+        let entry = decode(&bytes).ok();
+        Step {
+            bytes,
+            entry,
+            answer,
+        }
+    }
+
+    /// The entry, its kind and its answer, where it was accepted.
+    fn accepted(&self) -> Option<(Kind, &Entry, &Accepted)> {
+        let entry = self.entry.as_ref()?;
+        let kind = Kind::from_number(entry.kind)?;
+        Some((kind, entry, self.answer.as_ref().ok()?))
+    }
+}
+
+/// A claim that did not hold, in words.
+#[derive(Clone, Debug, PartialEq, Eq)]
+pub struct Failure(pub String);
+
+impl fmt::Display for Failure {
+    fn fmt(&self, formatter: &mut fmt::Formatter<'_>) -> fmt::Result {
+        formatter.write_str(&self.0)
+    }
+}
+
+impl std::error::Error for Failure {}
+
+/// What a walk has tried.
+#[derive(Clone, Debug, Default, PartialEq, Eq)]
+pub struct Tally {
+    /// Lists walked.
+    pub lists: u64,
+    /// States tested, one after each step.
+    pub states: u64,
+    /// Steps that were refused.
+    pub refused: u64,
+    /// Pairs of vehicles heading towards one another, over all states.
+    pub opposed_pairs: u64,
+    /// States in which a line clear was owed.
+    pub owing_states: u64,
+    /// Neighbours that changed places.
+    pub swaps: u64,
+    /// Steps run again after a swap.
+    pub rerun: u64,
+    /// The most vehicles in the section at one time.
+    pub most_vehicles: usize,
+}
+
+impl fmt::Display for Tally {
+    fn fmt(&self, formatter: &mut fmt::Formatter<'_>) -> fmt::Result {
+        write!(
+            formatter,
+            "lists {}, states {}, refused {}, opposed pairs {}, owing states {}, \
+             swaps {}, steps rerun {}, most vehicles {}",
+            self.lists,
+            self.states,
+            self.refused,
+            self.opposed_pairs,
+            self.owing_states,
+            self.swaps,
+            self.rerun,
+            self.most_vehicles
+        )
+    }
+}
+
+/// Walks so many steps with this crate's own step, in both its forms.
+///
+/// # Errors
+///
+/// The first claim that does not hold.
+pub fn walk(seed: u64, steps: u64) -> Result<Tally, Failure> {
+    walk_with(&step_in_both_forms, seed, steps)
+}
+
+/// Walks so many steps with any step.
+///
+/// # Errors
+///
+/// The first claim that does not hold.
+pub fn walk_with(stepper: &impl Stepper, seed: u64, steps: u64) -> Result<Tally, Failure> {
+    let mut random = Random::new(seed);
+    let mut tally = Tally::default();
+    while tally.states < steps {
+        let left = u16::try_from(steps - tally.states).unwrap_or(u16::MAX);
+        let length = random.between(1, LONGEST_LIST).min(left);
+        let mut generator = Generator::new(random.word(), any_options(&mut random));
+        let (list, sections) = walk_list(stepper, &mut generator, length, &mut tally)?;
+        swap_neighbours(stepper, &list, &sections, &mut tally)?;
+        tally.lists += 1;
+    }
+    Ok(tally)
+}
+
+fn any_options(random: &mut Random) -> Options {
+    Options {
+        accepted: random.chance(40),
+        full: random.chance(20),
+        ..Options::default()
+    }
+}
+
+/// Both forms of the step, which have to agree.
+fn step_in_both_forms(section: &mut Section, bytes: &[u8]) -> Answer {
+    let (answer, after) = step(section, bytes);
+    let in_place = step_in_place(section, bytes);
+    assert_eq!(answer, in_place, "the two forms answer differently");
+    assert_eq!(&after, section, "the two forms leave different sections");
+    in_place
+}
+
+/// Walks one list and tests every state of it. Gives the list and, for each
+/// place, the section before it; the last section stands at the end.
+fn walk_list(
+    stepper: &impl Stepper,
+    generator: &mut Generator,
+    length: u16,
+    tally: &mut Tally,
+) -> Result<(Vec<Step>, Vec<Section>), Failure> {
+    let mut section = Section::fresh();
+    let mut list = Vec::with_capacity(length.into());
+    let mut sections = vec![section.clone()];
+    for _ in 0..length {
+        let bytes = generator.next_step();
+        let answer = stepper(&mut section, &bytes);
+        tally.refused += u64::from(answer.is_err());
+        list.push(Step::new(bytes, answer));
+        check_state(&list, &section, tally)?;
+        sections.push(section.clone());
+    }
+    Ok((list, sections))
+}
+
+fn check_state(list: &[Step], section: &Section, tally: &mut Tally) -> Result<(), Failure> {
+    if !section.is_well_made() {
+        return fail(list, section, "the section is not well made");
+    }
+    tally.states += 1;
+    tally.most_vehicles = tally.most_vehicles.max(section.present);
+    tally.opposed_pairs += check_opposed(list, section)?;
+    check_owed(list, section)?;
+    let owing = section.desks.iter().any(|desk| desk.owes > 0);
+    tally.owing_states += u64::from(owing);
+    Ok(())
+}
+
+fn fail<T>(list: &[Step], section: &Section, claim: &str) -> Result<T, Failure> {
+    let mut log = String::new();
+    for step in list {
+        log.extend(step.bytes.iter().map(|byte| format!("{byte:02X}")));
+        log.push(' ');
+    }
+    Err(Failure(format!(
+        "{claim}\nlist: {log}\nsection: {section:?}"
+    )))
+}
+
+/// The last accepted departure of the list whose station is the vehicle's
+/// sender and whose answer has the vehicle's form number.
+fn departure_of<'a>(
+    list: &'a [Step],
+    vehicle: &Vehicle,
+) -> Option<(Kind, &'a Entry, &'a Accepted)> {
+    let sender = vehicle.sender?.number();
+    list.iter()
+        .rev()
+        .filter_map(Step::accepted)
+        .find(|(kind, entry, accepted)| {
+            kind.is_departure() && entry.station == sender && accepted.form == vehicle.form
+        })
+}
+
+/// Tests all pairs of opposed vehicles, neighbours or not, and counts them.
+///
+/// # Errors
+///
+/// A pair of which one did not leave on T/B 602 at 15 km/h or less.
+pub fn check_opposed(list: &[Step], section: &Section) -> Result<u64, Failure> {
+    let vehicles = section.vehicles();
+    let mut pairs = 0;
+    for (place, nearer_a) in vehicles.iter().enumerate() {
+        if nearer_a.heading != Some(Station::B) {
+            continue;
+        }
+        for nearer_b in &vehicles[place + 1..] {
+            if nearer_b.heading != Some(Station::A) {
+                continue;
+            }
+            pairs += 1;
+            if !(left_slowly(list, nearer_a) && left_slowly(list, nearer_b)) {
+                let claim = format!("opposed: {nearer_a:?} and {nearer_b:?}");
+                return fail(list, section, &claim);
+            }
+        }
+    }
+    Ok(pairs)
+}
+
+fn left_slowly(list: &[Step], vehicle: &Vehicle) -> bool {
+    departure_of(list, vehicle).is_some_and(|(_, _, accepted)| {
+        let slow = matches!(
+            accepted.speed,
+            Speed::Walking | Speed::Limit(10) | Speed::Limit(15)
+        );
+        accepted.forms & form::TB_602 != 0 && slow
+    })
+}
+
+/// Tests the line clears owed by both stations.
+///
+/// # Errors
+///
+/// A station that owes more or less than the sum.
+pub fn check_owed(list: &[Step], section: &Section) -> Result<(), Failure> {
+    if !section.in_force {
+        return Ok(());
+    }
+    for station in Station::BOTH {
+        let owed = usize::from(section.desk(station).owes);
+        let held = usize::from(section.desk(station.other()).holds);
+        let trains = trains_of(list, section, station.other());
+        let on_the_way: usize = section
+            .sent_by(station)
+            .map(|vehicle| usize::from(vehicle.granted))
+            .sum();
+        if owed != held + trains + on_the_way {
+            let claim = format!(
+                "{station:?} owes {owed}: held {held}, trains {trains}, on the way {on_the_way}"
+            );
+            return fail(list, section, &claim);
+        }
+    }
+    Ok(())
+}
+
+/// A station's vehicles that left on TRAIN.
+fn trains_of(list: &[Step], section: &Section, station: Station) -> usize {
+    section
+        .sent_by(station)
+        .filter(|vehicle| matches!(departure_of(list, vehicle), Some((Kind::Train, _, _))))
+        .count()
+}
+
+/// Changes the places of every two neighbours that may change them, and runs
+/// what is left of the list again each time.
+fn swap_neighbours(
+    stepper: &impl Stepper,
+    list: &[Step],
+    sections: &[Section],
+    tally: &mut Tally,
+) -> Result<(), Failure> {
+    for place in 1..list.len() {
+        if may_change_places(&list[place - 1], &list[place]) {
+            tally.swaps += 1;
+            tally.rerun += (list.len() - place + 1) as u64;
+            check_swap(stepper, list, sections, place)?;
+        }
+    }
+    Ok(())
+}
+
+/// Whether the claim covers these two neighbours.
+#[must_use]
+pub fn may_change_places(first: &Step, second: &Step) -> bool {
+    let (Some(first), Some(second)) = (first.accepted(), second.accepted()) else {
+        return false;
+    };
+    let stations = [first.1.station, second.1.station];
+    // BEGIN and RESUME belong to neither station.
+    let both_stations = stations == [1, 2] || stations == [2, 1];
+    let meeting = first.0 == Kind::Meet || second.0 == Kind::Meet;
+    let receives_what_was_sent = first.0.is_departure()
+        && second.0 == Kind::Receive
+        && second.1.sender == first.1.station
+        && second.1.form == first.2.form;
+    both_stations && !meeting && !receives_what_was_sent
+}
+
+/// Runs the list with `place - 1` and `place` in the other order. Up to there
+/// the list is the same, so the run starts from the section before them.
+fn check_swap(
+    stepper: &impl Stepper,
+    list: &[Step],
+    sections: &[Section],
+    place: usize,
+) -> Result<(), Failure> {
+    let mut section = sections[place - 1].clone();
+    let swapped = [&list[place], &list[place - 1]];
+    for step in swapped.into_iter().chain(&list[place + 1..]) {
+        if stepper(&mut section, &step.bytes) != step.answer {
+            let claim = format!("steps {place} and {} swapped: an answer differs", place + 1);
+            return fail(list, &section, &claim);
+        }
+    }
+    if Some(&section) != sections.last() {
+        let claim = format!(
+            "steps {place} and {} swapped: the section differs",
+            place + 1
+        );
+        return fail(list, &section, &claim);
+    }
+    Ok(())
+}
+
+#[cfg(test)]
+mod tests {
+    use super::*;
+    use crate::entry::{encode, LONGEST_ENTRY};
+    use crate::refusal::Refusal;
+
+    fn run(entries: &[Entry]) -> (Vec<Step>, Section) {
+        let mut section = Section::fresh();
+        let mut list = Vec::new();
+        for entry in entries {
+            let mut buffer = [0; LONGEST_ENTRY];
+            let length = encode(entry, &mut buffer).unwrap();
+            let bytes = buffer[..length].to_vec();
+            let answer = step_in_place(&mut section, &bytes);
+            list.push(Step::new(bytes, answer));
+        }
+        (list, section)
+    }
+
+    fn opened_from_both_ends() -> Vec<Entry> {
+        vec![
+            Entry::begin(),
+            Entry::open(Station::A, 0, 1, 1, 2),
+            Entry::open(Station::B, 0, 3, 2, 2),
+        ]
+    }
+
+    #[test]
+    fn a_departure_is_found_in_the_list_and_not_in_the_record() {
+        let (list, mut section) = run(&opened_from_both_ends());
+        assert_eq!(check_opposed(&list, &section), Ok(1));
+        // The record tells of a train, the list does not.
+        section.places[0].left_on = Some(Kind::Train);
+        assert_eq!(check_opposed(&list, &section), Ok(1));
+        assert_eq!(trains_of(&list, &section, Station::A), 0);
+        // No departure in the list has this form number.
+        section.places[0].form = 2;
+        assert!(check_opposed(&list, &section).is_err());
+    }
+
+    #[test]
+    fn the_last_departure_with_the_number_counts() {
+        let mut entries = opened_from_both_ends();
+        entries.truncate(2);
+        entries.push(Entry::receive(Station::A, 0, Station::A, 1));
+        entries.push(Entry::resume());
+        entries.push(Entry::begin());
+        entries.push(Entry::through(Station::A, 5, 2));
+        let (list, section) = run(&entries);
+        let (kind, entry, _) = departure_of(&list, &section.places[0]).unwrap();
+        assert_eq!((kind, entry.time), (Kind::Through, 5));
+    }
+
+    #[test]
+    fn a_fast_vehicle_in_an_opposed_pair_fails() {
+        let (mut list, section) = run(&opened_from_both_ends());
+        let answer = list[2].answer.as_mut().unwrap();
+        answer.speed = Speed::Limit(25);
+        assert!(check_opposed(&list, &section).is_err());
+        list[2].answer.as_mut().unwrap().speed = Speed::Limit(10);
+        assert_eq!(check_opposed(&list, &section), Ok(1));
+        list[1].answer.as_mut().unwrap().forms = 6;
+        assert!(check_opposed(&list, &section).is_err());
+    }
+
+    #[test]
+    fn a_wrong_sum_of_line_clears_fails() {
+        let (list, mut section) = run(&opened_from_both_ends());
+        assert_eq!(check_owed(&list, &section), Ok(()));
+        section.desks[0].owes = 1;
+        assert!(check_owed(&list, &section).is_err());
+        section.desks[1].holds = 1;
+        assert_eq!(check_owed(&list, &section), Ok(()));
+        section.in_force = false;
+        section.desks[1].holds = 0;
+        assert_eq!(check_owed(&list, &section), Ok(()));
+    }
+
+    #[test]
+    fn the_claim_about_places_covers_the_right_neighbours() {
+        let mut entries = opened_from_both_ends();
+        entries.push(Entry::meet(Station::B, Station::A, 1));
+        entries.push(Entry::receive(Station::B, 9, Station::B, 1));
+        entries.push(Entry::receive(Station::A, 9, Station::A, 1));
+        let (list, _) = run(&entries);
+        let covered = |first: usize| may_change_places(&list[first], &list[first + 1]);
+        assert!(!covered(0), "BEGIN belongs to neither station");
+        assert!(covered(1));
+        assert!(!covered(2), "a MEET");
+        assert!(!covered(3), "a MEET");
+        assert_eq!(list[5].answer, Err(Refusal::MayNotEnter));
+        assert!(!covered(4), "the second is refused");
+    }
+
+    #[test]
+    fn a_receipt_of_what_was_sent_just_before_keeps_its_place() {
+        let (list, _) = run(&[
+            Entry::begin(),
+            Entry::through(Station::A, 0, 1),
+            Entry::receive(Station::B, 9, Station::A, 1),
+            Entry::through(Station::A, 30, 1),
+            Entry::through(Station::A, 60, 1),
+            Entry::receive(Station::B, 40, Station::A, 2),
+        ]);
+        assert!(list.iter().all(|step| step.answer.is_ok()));
+        assert!(!may_change_places(&list[1], &list[2]));
+        assert!(may_change_places(&list[2], &list[3]));
+        assert!(!may_change_places(&list[3], &list[4]), "one station");
+        assert!(may_change_places(&list[4], &list[5]));
+    }
+}

@@ -1,0 +1,82 @@
+//! A register for the tests: it enters entries one by one in both forms of the
+//! step and looks after each refusal that nothing but the count has altered.
+
+// Each test program uses its own share of these helpers.
+#![allow(dead_code)]
+
+use second::entry::LONGEST_ENTRY;
+use second::{encode, step, step_in_place, Accepted, Answer, Entry, Refusal, Section, Speed};
+
+/// The bytes of an entry that may be written.
+pub fn bytes_of(entry: &Entry) -> Vec<u8> {
+    let mut buffer = [0; LONGEST_ENTRY];
+    let length = encode(entry, &mut buffer).expect("the entry may be written");
+    buffer[..length].to_vec()
+}
+
+/// Steps in both forms, which have to agree, and tests what a refusal alters.
+pub fn step_and_test(section: &mut Section, bytes: &[u8]) -> Answer {
+    let before = section.clone();
+    let (answer, after) = step(section, bytes);
+    assert_eq!(section, &before, "the section lent is not to be altered");
+    assert_eq!(step_in_place(section, bytes), answer);
+    assert_eq!(section, &after);
+    match answer {
+        Ok(_) => assert_eq!(after.refused, before.refused),
+        Err(Refusal::IllMade) => assert_eq!(after, before),
+        Err(_) => assert_eq!(
+            after,
+            Section {
+                refused: before.refused.saturating_add(1),
+                ..before
+            }
+        ),
+    }
+    answer
+}
+
+/// A section under entry.
+pub struct Register {
+    pub section: Section,
+}
+
+impl Register {
+    /// Starts from the fresh section.
+    pub fn fresh() -> Register {
+        Register {
+            section: Section::fresh(),
+        }
+    }
+
+    /// Starts with the failure declared.
+    pub fn begun() -> Register {
+        let mut register = Register::fresh();
+        register.accept(Entry::begin());
+        register
+    }
+
+    pub fn enter(&mut self, entry: Entry) -> Answer {
+        step_and_test(&mut self.section, &bytes_of(&entry))
+    }
+
+    /// Enters what has to be accepted.
+    #[track_caller]
+    pub fn accept(&mut self, entry: Entry) -> Accepted {
+        match self.enter(entry) {
+            Ok(accepted) => accepted,
+            Err(refusal) => panic!("{entry:?}: {refusal}"),
+        }
+    }
+
+    /// Enters what has to be refused with this number.
+    #[track_caller]
+    pub fn refuse(&mut self, number: u8, entry: Entry) {
+        let answer = self.enter(entry).map_err(Refusal::number);
+        assert_eq!(answer, Err(number), "{entry:?}");
+    }
+}
+
+/// An answer in one word.
+pub fn answer(form: u16, forms: u16, speed: Speed) -> Accepted {
+    Accepted { form, forms, speed }
+}

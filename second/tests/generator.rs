@@ -1,0 +1,303 @@
+//! What the generator reaches, and the generator as a program.
+
+use std::collections::BTreeSet;
+use std::process::{Command, Output};
+use std::sync::LazyLock;
+
+use second::generator::{log, Options};
+use second::{
+    list, Accepted, Entry, Kind, Line, Refusal, Run, Section, Speed, Station, LONGEST_LOG,
+};
+
+/// Logs of the lister's size: these six have to be enough for all claims.
+static LOGS: LazyLock<Vec<Vec<u8>>> = LazyLock::new(|| {
+    (0..6)
+        .map(|seed| lister_sized(seed, Options::default()))
+        .collect()
+});
+
+fn lister_sized(seed: u64, options: Options) -> Vec<u8> {
+    let options = Options {
+        bytes: Some(LONGEST_LOG),
+        ..options
+    };
+    log(seed, LONGEST_LOG, options)
+}
+
+fn for_each_line(log: &[u8], mut look: impl FnMut(&Section, &Line, &Section)) {
+    let mut run = Run::new(log);
+    let mut before = run.section().clone();
+    while let Some(line) = run.next() {
+        look(&before, &line, run.section());
+        before = run.section().clone();
+    }
+}
+
+#[test]
+fn every_refusal_but_18_is_reached_within_the_listers_size() {
+    let mut seen = BTreeSet::new();
+    for log in LOGS.iter() {
+        assert_eq!(log.len(), LONGEST_LOG);
+        let mut accepted = 0;
+        let mut refused = 0;
+        for line in Run::new(log) {
+            match line.answer {
+                Ok(_) => accepted += 1,
+                Err(refusal) => {
+                    refused += 1;
+                    seen.insert(refusal.number());
+                }
+            }
+        }
+        assert!(accepted > 3 * refused, "most are to be accepted");
+        assert!(refused > 500, "many are to be refused");
+    }
+    // 5 and 23 are not for a log from the fresh section.
+    let expected: BTreeSet<u8> = (1..=22)
+        .filter(|number| ![5, 18].contains(number))
+        .collect();
+    assert_eq!(seen, expected);
+}
+
+#[test]
+fn a_worn_log_reaches_18() {
+    for seed in 0..3 {
+        let options = Options {
+            worn: true,
+            ..Options::default()
+        };
+        let log = log(seed, 400, options);
+        let used_up = Run::new(&log)
+            .filter(|line| line.answer == Err(Refusal::FormsUsedUp))
+            .count();
+        let last_given =
+            Run::new(&log).any(|line| matches!(line.answer, Ok(Accepted { form: 9_999, .. })));
+        assert!(used_up > 0 && last_given, "seed {seed}");
+    }
+}
+
+#[test]
+fn a_full_section_is_kept_full() {
+    for accepted in [false, true] {
+        let options = Options {
+            accepted,
+            full: true,
+            ..Options::default()
+        };
+        let (mut full, mut states) = (0, 0);
+        for_each_line(&lister_sized(1, options), |_, _, after| {
+            states += 1;
+            full += u32::from(after.present >= 22);
+        });
+        assert!(2 * full > states, "{full} of {states}");
+    }
+}
+
+/// What a good set of logs has come by, one name for each.
+fn places_come_by(before: &Section, line: &Line, after: &Section) -> Vec<String> {
+    let mut names = Vec::new();
+    let mut name = |reached: bool, what: &str| {
+        if reached {
+            names.push(what.to_owned());
+        }
+    };
+    for station in Station::BOTH {
+        let desk = after.desk(station);
+        let letter = station.letter();
+        name(desk.guest > 0, &format!("guest {} at {letter}", desk.guest));
+        name(desk.holds == 8, &format!("{letter} holds 8"));
+        name(desk.owes == 8, &format!("{letter} owes 8"));
+        name(desk.asked == 8, &format!("{letter} is asked for 8"));
+        name(
+            desk.clock == u16::MAX,
+            &format!("{letter} at the last minute"),
+        );
+        name(desk.last_form > 255, &format!("forms of {letter} over 255"));
+        let twelve = after.sent_by(station).count() == 12;
+        name(twelve, &format!("12 of {letter}"));
+    }
+    name(after.present == 24, "24 vehicles");
+    if let (Some(entry), Ok(accepted)) = (line.entry, line.answer) {
+        name_entry(&entry, accepted, before, &mut name);
+    }
+    names
+}
+
+fn name_entry(
+    entry: &Entry,
+    accepted: Accepted,
+    before: &Section,
+    name: &mut impl FnMut(bool, &str),
+) {
+    let kind = Kind::from_number(entry.kind).unwrap();
+    let station = Station::from_number(entry.station).unwrap_or(Station::A);
+    let desk = before.desk(station);
+    let message = ["no", "some"];
+    let asks = message[usize::from(entry.asked > 0)];
+    let grants = message[usize::from(entry.granted > 0)];
+    match kind {
+        Kind::Open | Kind::Through => {
+            name(true, &format!("{kind:?} in view {}", entry.view));
+        }
+        Kind::Return => name(true, &format!("Return: {asks} asked, {grants} granted")),
+        Kind::Train => {
+            name(true, &format!("Train: {asks} asked, {grants} granted"));
+            name(
+                true,
+                &format!("Train in view {}, {}", entry.view, accepted.speed),
+            );
+            name(
+                desk.holds == 1 && desk.sent == 7,
+                "eighth train of a series",
+            );
+        }
+        Kind::Meet => {
+            let named = before.vehicles().iter().position(|vehicle| {
+                vehicle.sender.map(Station::number) == Some(entry.sender)
+                    && vehicle.form == entry.form
+            });
+            let place = named.unwrap();
+            let (nearer_a, nearer_b) = (before.vehicles()[place], before.vehicles()[place + 1]);
+            name(nearer_a.sender == nearer_b.sender, "meeting of one sender");
+            name(nearer_a.met && nearer_b.met, "meeting of two that met");
+            name(true, &format!("meeting towards {}", station.letter()));
+        }
+        Kind::Receive => {
+            let own = entry.station == entry.sender;
+            let nearest = before.nearest(station).unwrap();
+            let left_on = nearest.left_on.unwrap();
+            name(own, &format!("own {left_on:?} back, met {}", nearest.met));
+            name(
+                !own,
+                &format!("{left_on:?} of the other, met {}", nearest.met),
+            );
+            let stale = !own && left_on == Kind::Train && nearest.asked == 0 && desk.asked > 0;
+            name(stale, "an enquiry outlives a train without one");
+        }
+        Kind::Resume => {
+            let owes = before.desks.iter().any(|desk| desk.owes > 0);
+            name(owes, "resumed though a clear is owed");
+        }
+        Kind::Begin => name(before.refused > 0, "begun with refusals counted"),
+    }
+}
+
+fn places_wished_for() -> BTreeSet<String> {
+    let mut wished = BTreeSet::new();
+    for letter in ["A", "B"] {
+        for class in 1..=5 {
+            wished.insert(format!("guest {class} at {letter}"));
+        }
+        wished.insert(format!("{letter} holds 8"));
+        wished.insert(format!("{letter} owes 8"));
+        wished.insert(format!("{letter} is asked for 8"));
+        wished.insert(format!("{letter} at the last minute"));
+        wished.insert(format!("forms of {letter} over 255"));
+        wished.insert(format!("12 of {letter}"));
+        wished.insert(format!("meeting towards {letter}"));
+    }
+    for view in 1..=3 {
+        wished.insert(format!("Open in view {view}"));
+        wished.insert(format!("Through in view {view}"));
+        wished.insert(format!("Train in view {view}, {}", Speed::Booked));
+        let follower = if view == 1 { 25 } else { 10 };
+        wished.insert(format!("Train in view {view}, {follower}"));
+    }
+    for asks in ["no", "some"] {
+        for grants in ["no", "some"] {
+            wished.insert(format!("Return: {asks} asked, {grants} granted"));
+            wished.insert(format!("Train: {asks} asked, {grants} granted"));
+        }
+    }
+    for kind in ["Open", "Through"] {
+        for met in [false, true] {
+            wished.insert(format!("own {kind} back, met {met}"));
+            wished.insert(format!("{kind} of the other, met {met}"));
+        }
+    }
+    let others = [
+        "24 vehicles",
+        "eighth train of a series",
+        "meeting of one sender",
+        "meeting of two that met",
+        "Return of the other, met false",
+        "Train of the other, met false",
+        "an enquiry outlives a train without one",
+        "resumed though a clear is owed",
+        "begun with refusals counted",
+    ];
+    wished.extend(others.map(str::to_owned));
+    wished
+}
+
+#[test]
+fn deep_states_are_reached() {
+    let mut reached = BTreeSet::new();
+    for log in LOGS.iter() {
+        for_each_line(log, |before, line, after| {
+            reached.extend(places_come_by(before, line, after));
+        });
+    }
+    let wished = places_wished_for();
+    let missed: Vec<_> = wished.difference(&reached).collect();
+    let unforeseen: Vec<_> = reached.difference(&wished).collect();
+    assert!(missed.is_empty(), "missed {missed:?}");
+    assert!(unforeseen.is_empty(), "unforeseen {unforeseen:?}");
+}
+
+#[test]
+fn every_log_is_listed_line_by_line() {
+    for log in LOGS.iter() {
+        let listing = list(log);
+        let run: Vec<Line> = Run::new(log).collect();
+        assert_eq!(listing.lines().count(), run.len() + 1);
+        let refused = run.iter().filter(|line| line.answer.is_err()).count();
+        let accepted = run.len() - refused;
+        let end = format!("end {} {accepted} {refused} ", run.len());
+        assert!(listing.lines().last().unwrap().starts_with(&end));
+    }
+}
+
+fn run_gen(arguments: &[&str]) -> Output {
+    Command::new(env!("CARGO_BIN_EXE_gen"))
+        .args(arguments)
+        .output()
+        .expect("the generator runs")
+}
+
+#[test]
+fn the_program_writes_the_log_of_its_arguments() {
+    let output = run_gen(&["7", "100"]);
+    assert!(output.status.success());
+    assert_eq!(output.stdout, log(7, 100, Options::default()));
+    let output = run_gen(&["7", "100", "--accepted", "--bytes", "300", "--full"]);
+    let options = Options {
+        accepted: true,
+        full: true,
+        bytes: Some(300),
+        ..Options::default()
+    };
+    assert_eq!(output.stdout, log(7, 100, options));
+    let output = run_gen(&["7", "100", "--worn"]);
+    assert!(output.stdout.len() > 2 * LONGEST_LOG);
+}
+
+#[test]
+fn a_bad_call_gives_one_line_of_usage() {
+    let bad_calls: [&[&str]; 6] = [
+        &[],
+        &["1"],
+        &["one", "2"],
+        &["1", "2", "3"],
+        &["1", "2", "--bytes"],
+        &["1", "-2"],
+    ];
+    for arguments in bad_calls {
+        let output = run_gen(arguments);
+        assert!(!output.status.success(), "{arguments:?}");
+        assert_eq!(output.stdout, b"");
+        let message = String::from_utf8(output.stderr).unwrap();
+        assert!(message.starts_with("usage: gen SEED ENTRIES"));
+        assert_eq!(message.lines().count(), 1);
+    }
+}

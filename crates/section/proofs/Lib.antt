@@ -1,2 +1,4 @@
+pub mod Ends
 pub mod Padding
+pub mod Pads
 pub mod Passes

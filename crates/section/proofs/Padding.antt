@@ -8,6 +8,7 @@ use native.Mathlib.Numerals.{add-one}
 use native.Mathlib.Omega.{arith}
 use lib.ListN.{length, take, drop, getD, set, drop-of-length-le}
 use lib.Seq.{take-all, getD-drop}
+use Rattle.working.proofs.Made.{length-padTo}
 use Rattle.working.specs.declared.Vehicle.{Vehicle}
 use Rattle.working.specs.Sections.{padTo, unused}
 
@@ -26,17 +27,11 @@ pub stored : (line old : List Vehicle) (i : ℕ) → i < 24 → length old ≡ 2
     → set (take i (padTo 24 line) ++ drop i old) i (getD line i unused) ≡ take (i + 1) (padTo 24 line) ++ drop (i + 1) old
 stored line old i h e = rw add-one (store 24 line old i h e)
 
-length-pad : (n : ℕ) (line : List Vehicle) → length (padTo n line) ≡ n
-unfolding padTo
-length-pad zero line = refl
-length-pad (suc n) [] = ap suc (length-pad n [])
-length-pad (suc n) (v ∷ line) = ap suc (length-pad n line)
-
 -- all places are written
 pub all-stored : (line old : List Vehicle) (i : ℕ) {after : List Vehicle} → i ≡ 24 → length old ≡ 24
     → after ≡ take i (padTo 24 line) ++ drop i old → after ≡ padTo 24 line
 all-stored line old i {after} e h p =
-    p ∙ rw (e, take-all 24 (padTo 24 line) (omega (arith, length-pad 24 line)), drop-of-length-le old {i = 24} (omega arith)) (append-nil (padTo 24 line))
+    p ∙ rw (e, take-all 24 (padTo 24 line) (omega (arith, length-padTo 24 line)), drop-of-length-le old {i = 24} (omega arith)) (append-nil (padTo 24 line))
 
 -- the place behind place i
 pub next-place : (places : List Vehicle) (i : ℕ) → getD places (i + 1) unused ≡ getD (drop 1 places) i unused

@@ -1,6 +1,7 @@
 // The section's leaves: the stations, the 24 places, the desks, and the test that a section is well made.
 // Each function is total, and equal to a definition of `working`, or of specs/ where `working` has none.
 mod desks;
+mod line;
 mod made;
 mod places;
 mod stations;
@@ -10,6 +11,11 @@ pub use desks::count_refusal;
 pub use desks::desk;
 pub use desks::emptied;
 pub use desks::with_desk;
+pub use line::blanked;
+pub use line::nearest;
+pub use line::with_inserted;
+pub use line::with_met;
+pub use line::with_removed;
 pub use made::well_made;
 pub use places::find;
 pub use places::inserted_first;

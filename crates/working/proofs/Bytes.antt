@@ -9,7 +9,7 @@ use lib.ListN.{length, take, drop, getD, length-append}
 use lib.Seq.{take-suc, getD-drop}
 use Rattle.working.specs.Entries.{AreBytes, highFirst, onward, valueOf}
 
-onward-append : (n : ℕ) (a b : List ℕ) → onward n (a ++ b) ≡ onward (onward n a) b
+pub onward-append : (n : ℕ) (a b : List ℕ) → onward n (a ++ b) ≡ onward (onward n a) b
 onward-append n [] b = refl
 onward-append n (x ∷ a) b = onward-append (n * 256 + x) a b
 

@@ -1,0 +1,16 @@
+// The step on a section and lent bytes, in both forms, and the running of a log.
+mod acting;
+mod events;
+mod memory;
+mod running;
+mod stepping;
+
+pub use acting::enter;
+pub use events::event_of;
+pub use memory::step_in;
+pub use memory::step_via;
+pub use running::Last;
+pub use running::Ran;
+pub use running::run;
+pub use stepping::answered;
+pub use stepping::step;

@@ -11,7 +11,7 @@ use Rattle.working.specs.Entries.{AreBytes, highFirst, onward, valueOf}
 
 pub onward-append : (n : ℕ) (a b : List ℕ) → onward n (a ++ b) ≡ onward (onward n a) b
 onward-append n [] b = refl
-onward-append n (x ∷ a) b = onward-append (n * 256 + x) a b
+onward-append n (x ∷ a) b = onward-append _ a b
 
 pub length-high : (width n : ℕ) → length (highFirst width n) ≡ width
 length-high zero n = refl

@@ -1,22 +1,22 @@
 -- What a departure that is allowed may rely on, and what the parts of a sum of forms come to at most.
 -- Assumes nothing.
-use mathlib.Core.Bool.{Bool, true, false, cond}
-use mathlib.Core.List.{List, [], _∷_}
-use mathlib.Core.Path.{_≡_}
-use Prim.Native.Nat.{ℕ, zero, suc, _≤_, max}
-use native.Mathlib.Omega.{arith}
-use lib.ListN.{drop}
-use borrow.Author.Tests.{leb-false}
+use Prim.Native.Nat.{_≤_, max, suc, zero, ℕ}
 use Rattle.rules.specs.Rules.{Room}
 use Rattle.working.proofs.Tests.{NoneHolds, none-holds}
-use Rattle.working.specs.declared.Desk.{Desk}
-use Rattle.working.specs.declared.Refusal.{Refusal}
-use Rattle.working.specs.declared.Station.{Station}
-use Rattle.working.specs.declared.Station.the-variants.{A, B}
-use Rattle.working.specs.declared.Verdict.the-variants.{Allowed}
 use Rattle.working.specs.Effects.{wayForm}
 use Rattle.working.specs.Reasons.{departTests}
 use Rattle.working.specs.Refusals.{firstOf}
+use Rattle.working.specs.declared.Desk.{Desk}
+use Rattle.working.specs.declared.Refusal.{Refusal}
+use Rattle.working.specs.declared.Station.the-variants.{A, B}
+use Rattle.working.specs.declared.Station.{Station}
+use Rattle.working.specs.declared.Verdict.the-variants.{Allowed}
+use borrow.Author.Tests.{leb-false}
+use lib.ListN.{drop}
+use mathlib.Core.Bool.{Bool, cond, false, true}
+use mathlib.Core.List.{List, [], _∷_}
+use mathlib.Core.Path.{_≡_}
+use native.Mathlib.Omega.{arith}
 
 none-later : (n : ℕ) (tests : List (Bool × Refusal)) → NoneHolds tests → NoneHolds (drop n tests)
 none-later zero tests h = h

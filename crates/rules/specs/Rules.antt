@@ -1,12 +1,12 @@
 -- The parts of document 01's tests and effects that several kinds share, and what a departure that is allowed may rely on.
-use Prim.Native.Nat.{ℕ, _<_}
-use mathlib.Core.Bool.{Bool, not}
-use lib.Dec.{ltb}
+use Prim.Native.Nat.{_<_, ℕ}
+use Rattle.working.specs.Effects.{desk, ifAny, received}
+use Rattle.working.specs.Refusals.{orElse}
 use Rattle.working.specs.declared.Desk.{Desk}
 use Rattle.working.specs.declared.Refusal.the-variants.{BeforeClock, NotInForce}
 use Rattle.working.specs.declared.Verdict.{Verdict}
-use Rattle.working.specs.Effects.{desk, ifAny, received}
-use Rattle.working.specs.Refusals.{orElse}
+use lib.Dec.{ltb}
+use mathlib.Core.Bool.{Bool, not}
 
 -- 7 and 9, then the later tests
 abbrev pub inTime : Bool → ℕ → ℕ → Verdict → Verdict

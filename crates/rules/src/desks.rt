@@ -1,8 +1,8 @@
 // A station's desk after each kind. Every figure that is not named stays as it was.
-ghost use mathlib.Core.Path.{_≡_};
 ghost use Prim.Native.Nat.{_-_};
 ghost use Rattle.rules.specs.Rules.{Room, clearsDesk, receivedDesk};
 ghost use Rattle.working.specs.Effects.{arriveDesk, ifAny, openDesk, otherDesk, ownDesk, returnDesk, throughDesk, trainDesk};
+ghost use mathlib.Core.Path.{_≡_};
 use section::station_number;
 use working::Desk;
 use working::Interval;

@@ -1,9 +1,9 @@
 // What each kind comes to: a refusal, or the desk after it with what leaves. No departure reads the nearest vehicle, nor OPEN and THROUGH the station.
-ghost use mathlib.Core.Path.{_≡_};
+ghost use Rattle.working.specs.Steps.{planOf};
 ghost use Rattle.working.specs.declared.Act.the-variants.{Opens, Passes, Receives, Returns, Runs};
 ghost use Rattle.working.specs.declared.Station.{Station};
 ghost use Rattle.working.specs.declared.Vehicle.{Vehicle};
-ghost use Rattle.working.specs.Steps.{planOf};
+ghost use mathlib.Core.Path.{_≡_};
 use crate::desks::arrive_desk;
 use crate::desks::open_desk;
 use crate::desks::return_desk;

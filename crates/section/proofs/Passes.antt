@@ -1,16 +1,16 @@
 -- A pass from B's end to A's: at place i it has what a definition by recursion says of the vehicles from place i on.
 -- Assumes nothing.
-use mathlib.Core.Bool.{Bool, true, false, not, cond, _&&_, _||_}
+use Prim.Native.Nat.{_+_, _-_, _<_, _≤_, min, suc, ℕ}
+use Rattle.section.specs.Made.{Room, surveyOf}
+use Rattle.working.specs.WellMade.{countFrom, isFrom, oneIf}
+use Rattle.working.specs.declared.Vehicle.{Vehicle}
+use lib.ListN.{drop, drop-of-length-le, getD, length, take}
+use lib.Seq.{drop-cons, getD-take, length-take-le, take-all}
+use mathlib.Core.Bool.{Bool, _&&_, _||_, cond, false, not, true}
 use mathlib.Core.List.{List, [], _∷_}
-use mathlib.Core.Path.{_≡_, refl, ap, _∙_, sym}
-use Prim.Native.Nat.{ℕ, suc, _+_, _-_, _<_, _≤_, min}
+use mathlib.Core.Path.{_∙_, _≡_, ap, refl, sym}
 use native.Mathlib.Decide.{decLe}
 use native.Mathlib.Omega.{arith}
-use lib.ListN.{length, take, drop, getD, drop-of-length-le}
-use lib.Seq.{drop-cons, getD-take, length-take-le, take-all}
-use Rattle.section.specs.Made.{Room, surveyOf}
-use Rattle.working.specs.declared.Vehicle.{Vehicle}
-use Rattle.working.specs.WellMade.{isFrom, oneIf, countFrom}
 
 -- the places from the last but i on
 pub drop-back : {A : Type 0} (l : List A) (i : ℕ) (d : A) → 0 < i → i ≤ length l → drop (i - 1) l ≡ getD l (i - 1) d ∷ drop i l

@@ -1,11 +1,11 @@
 // The 24 places: the vehicles in order from A to B, and unused places behind them.
+ghost use Prim.Native.Nat.{min};
+ghost use Rattle.working.specs.Reasons.{findOf, mayMeet};
+ghost use Rattle.working.specs.Sections.{padTo, unused};
+ghost use lib.ListN.{drop, getD, set, take};
 ghost use mathlib.Core.Bool.{cond};
 ghost use mathlib.Core.List.{_∷_};
 ghost use mathlib.Core.Path.{_≡_};
-ghost use Prim.Native.Nat.{min};
-ghost use lib.ListN.{drop, getD, set, take};
-ghost use Rattle.working.specs.Reasons.{findOf, mayMeet};
-ghost use Rattle.working.specs.Sections.{padTo, unused};
 use crate::vehicles::is_named;
 use crate::vehicles::is_opener;
 use working::Section;
@@ -27,10 +27,11 @@ pub fn vehicle_at(places: [Vehicle; 24], i: usize) -> Vehicle
 pub fn with_vehicle_at(places: [Vehicle; 24], i: usize, v: Vehicle) -> [Vehicle; 24]
     ensures { λ r. ⌜ r ≡ set places i v ⌝ }
 {
-    let mut after = places;
-    if i < Section::PLACES {
-        after[i] = v;
+    if Section::PLACES <= i {
+        return places;
     }
+    let mut after = places;
+    after[i] = v;
     after
 }
 

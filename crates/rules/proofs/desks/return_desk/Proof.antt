@@ -1,8 +1,8 @@
 -- `desks::return_desk` meets its contract: a departure, and three figures set.
 -- Assumes nothing.
-use borrow.Author.Needs.{needs}
 use Rattle.rules.proofs.desks.return_desk.Statement.{statement}
 use Rattle.rules.proofs.desks.return_desk.Tie as tie
+use borrow.Author.Needs.{needs}
 
 through-desk-requires : tie.Need-through-desk-requires
 through-desk-requires c κs = search needs

@@ -1,9 +1,9 @@
 -- `desks::train_desk` meets its contract: a departure, one line clear less, and a grant where there is one.
 -- Assumes nothing.
-use borrow.Author.Needs.{needs}
-use borrow.Author.Tests.{lt-ltb, le-ltb}
 use Rattle.rules.proofs.desks.train_desk.Statement.{statement}
 use Rattle.rules.proofs.desks.train_desk.Tie as tie
+use borrow.Author.Needs.{needs}
+use borrow.Author.Tests.{le-ltb, lt-ltb}
 
 through-desk-requires : tie.Need-through-desk-requires
 through-desk-requires c κs = search needs

@@ -2,11 +2,11 @@
 -- Assumes nothing.
 use Prim.Native.Nat.{_+_, _≤_}
 use Rattle.rules.proofs.Laws.{cond-most, way-most}
+use Rattle.rules.proofs.orders.clear_forms.Statement.{statement}
+use Rattle.rules.proofs.orders.clear_forms.Tie as tie
 use borrow.Author.Needs.{needs}
 use lib.Dec.{ltb}
 use native.Mathlib.Omega.{arith}
-use Rattle.rules.proofs.orders.clear_forms.Statement.{statement}
-use Rattle.rules.proofs.orders.clear_forms.Tie as tie
 
 most : (c : tie.After-form-by3) → c .before .before .before .way-form .result + 32 + c .before .before .form-by .result + c .before .form-by2 .result + c .form-by3 .result ≤ 182
 most c =

@@ -1,11 +1,11 @@
 -- `plans::open_plan` meets its contract: a refusal is the one that the tests gave, and what is allowed is what the definition writes out.
 -- Assumes nothing.
 use Rattle.rules.proofs.Laws.{room}
+use Rattle.rules.proofs.plans.open_plan.Statement.{statement}
+use Rattle.rules.proofs.plans.open_plan.Tie as tie
 use Rattle.working.specs.Reasons.{openTests}
 use borrow.Author.Needs.{needs}
 use mathlib.Core.Path.{_∙_, refl, sym}
-use Rattle.rules.proofs.plans.open_plan.Statement.{statement}
-use Rattle.rules.proofs.plans.open_plan.Tie as tie
 
 open-verdict-requires : tie.Need-open-verdict-requires
 open-verdict-requires c κs = search needs

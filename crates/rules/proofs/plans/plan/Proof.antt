@@ -1,8 +1,8 @@
 -- `rules::plan` meets its contract: each act has a function that is proved equal to its case of the definition.
 -- Assumes nothing.
-use borrow.Author.Needs.{needs}
 use Rattle.rules.proofs.plans.plan.Statement.{statement}
 use Rattle.rules.proofs.plans.plan.Tie as tie
+use borrow.Author.Needs.{needs}
 
 enum-known-act : tie.Need-enum-known-act
 enum-known-act c = search needs

@@ -1,9 +1,9 @@
 -- `made::seen` meets its contract: the new vehicle is tested, and stands in front of all others.
 -- Assumes nothing.
 use Rattle.section.proofs.Passes.{either}
-use borrow.Author.Needs.{needs}
 use Rattle.section.proofs.made.seen.Statement.{statement}
 use Rattle.section.proofs.made.seen.Tie as tie
+use borrow.Author.Needs.{needs}
 
 is-shaped-requires : tie.Need-is-shaped-requires
 is-shaped-requires c κs = search needs

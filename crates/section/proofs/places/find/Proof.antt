@@ -1,16 +1,16 @@
 -- `section::find` meets its contract. The loop's invariant: what is found so far is `i` and the place among the vehicles from place `i` on.
 -- Assumes nothing.
 use Prim.Native.Nat.{_+_, _-_, _≤_}
-use Rattle.section.proofs.Passes.{drop-end, drop-down, found-at, take-present}
+use Rattle.section.proofs.Passes.{drop-down, drop-end, found-at, take-present}
+use Rattle.section.proofs.places.find.Statement.{statement}
+use Rattle.section.proofs.places.find.Tie as tie
 use Rattle.working.specs.Reasons.{findOf, isNamed}
 use Rattle.working.specs.Sections.{unused}
 use borrow.Author.Needs.{needs}
-use lib.ListN.{length, take, drop, getD}
-use mathlib.Core.Path.{_≡_, _∙_, sym}
+use lib.ListN.{drop, getD, length, take}
+use mathlib.Core.Path.{_≡_}
 use native.Mathlib.Nat.{zero-add}
 use native.Mathlib.Omega.{arith}
-use Rattle.section.proofs.places.find.Statement.{statement}
-use Rattle.section.proofs.places.find.Tie as tie
 
 abbrev Inv-loop : tie.InvT-loop
 Inv-loop len sender form places present found₀ i₀ found i = (i ≤ present) × (present ≤ 24) × (found ≡ i + findOf sender form (drop i (take present places)))

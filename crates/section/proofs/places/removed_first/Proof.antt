@@ -1,15 +1,15 @@
 -- `section::removed_first` meets its contract. The loop's invariant: the places before `i` are written, and the others are as they were.
 -- Assumes nothing.
 use Prim.Native.Nat.{_-_, _≤_}
-use Rattle.section.proofs.Padding.{stored, all-stored, next-place}
+use Rattle.section.proofs.Padding.{all-stored, next-place, stored}
+use Rattle.section.proofs.places.removed_first.Statement.{statement}
+use Rattle.section.proofs.places.removed_first.Tie as tie
 use Rattle.working.specs.Sections.{padTo}
 use borrow.Author.Needs.{needs}
-use lib.ListN.{length, take, drop}
+use lib.ListN.{drop, length, take}
 use mathlib.Core.List.{_++_}
 use mathlib.Core.Path.{_≡_, refl}
 use native.Mathlib.Omega.{arith}
-use Rattle.section.proofs.places.removed_first.Statement.{statement}
-use Rattle.section.proofs.places.removed_first.Tie as tie
 
 abbrev Inv-loop : tie.InvT-loop
 Inv-loop places after₀ i₀ after i = (i ≤ 24) × (after ≡ take i (padTo 24 (drop 1 places)) ++ drop i places)

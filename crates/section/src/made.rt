@@ -14,13 +14,13 @@ use working::Section;
 use working::Vehicle;
 
 // A station's vehicles among those passed: how many, and whether their form numbers are 1 to the desk's last.
-pub struct Tally {
+pub(crate) struct Tally {
     pub count: u8,
     pub numbered: bool,
 }
 
 // The vehicles passed: whether each is shaped, whether A's all stand nearer A than B's, whether all are B's, and each station's tally.
-pub struct Survey {
+pub(crate) struct Survey {
     pub shaped: bool,
     pub ordered: bool,
     pub alone: bool,

@@ -1,7 +1,8 @@
 -- `made::survey_of` meets its contract. The loop's invariant: the vehicles from place `i` on are surveyed.
 -- Assumes nothing.
 use Prim.Native.Nat.{_≤_}
-use Rattle.section.proofs.Passes.{drop-down, drop-end, room}
+use Rattle.section.proofs.Passes.{drop-down, drop-end}
+use Rattle.section.proofs.Tallies.{room}
 use Rattle.section.proofs.made.survey_of.Statement.{statement}
 use Rattle.section.proofs.made.survey_of.Tie as tie
 use Rattle.section.specs.Made.{surveyOf}

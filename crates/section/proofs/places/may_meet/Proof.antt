@@ -12,8 +12,8 @@ use mathlib.Core.Bool.{and-assoc, and-true}
 use mathlib.Core.Path.{_≡_}
 use native.Mathlib.Omega.{arith}
 
-present-requires : tie.Need-present-requires
-present-requires c κs = search needs
+within-places-requires : tie.Need-within-places-requires
+within-places-requires c κs = search needs
 
 returns : tie.Need-returns
 returns c =
@@ -64,7 +64,7 @@ pub may-meet-spec : {M : Type 1} → statement M
 may-meet-spec =
     tie.close
     (tie.spec
-    present-requires
+    within-places-requires
     returns
     add-next
     returns-2

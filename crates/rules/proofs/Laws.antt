@@ -1,22 +1,18 @@
--- What a departure that is allowed may rely on, and what the parts of a sum of forms come to at most.
+-- A departure that is allowed has room: the tests that every departure is put to last have passed.
 -- Assumes nothing.
-use mathlib.Core.Bool.{Bool, true, false, cond}
-use mathlib.Core.List.{List, [], _∷_}
-use mathlib.Core.Path.{_≡_}
-use Prim.Native.Nat.{ℕ, zero, suc, _≤_, max}
-use native.Mathlib.Omega.{arith}
-use lib.ListN.{drop}
-use borrow.Author.Tests.{leb-false}
+use Prim.Native.Nat.{suc, zero, ℕ}
 use Rattle.rules.specs.Rules.{Room}
 use Rattle.working.proofs.Tests.{NoneHolds, none-holds}
-use Rattle.working.specs.declared.Desk.{Desk}
-use Rattle.working.specs.declared.Refusal.{Refusal}
-use Rattle.working.specs.declared.Station.{Station}
-use Rattle.working.specs.declared.Station.the-variants.{A, B}
-use Rattle.working.specs.declared.Verdict.the-variants.{Allowed}
-use Rattle.working.specs.Effects.{wayForm}
 use Rattle.working.specs.Reasons.{departTests}
 use Rattle.working.specs.Refusals.{firstOf}
+use Rattle.working.specs.declared.Desk.{Desk}
+use Rattle.working.specs.declared.Refusal.{Refusal}
+use Rattle.working.specs.declared.Verdict.the-variants.{Allowed}
+use borrow.Author.Tests.{leb-false}
+use lib.ListN.{drop}
+use mathlib.Core.Bool.{Bool}
+use mathlib.Core.List.{List, [], _∷_}
+use mathlib.Core.Path.{_≡_}
 
 none-later : (n : ℕ) (tests : List (Bool × Refusal)) → NoneHolds tests → NoneHolds (drop n tests)
 none-later zero tests h = h
@@ -28,11 +24,3 @@ pub room : (n : ℕ) (tests : List (Bool × Refusal)) (d : Desk) (time : ℕ) �
 room n tests d time e h =
     let fails : NoneHolds (departTests d time) = rw e at (none-later n tests (none-holds tests h)) in
     record { sent = leb-false 12 (d .sent) (fails .0); forms = leb-false 9999 (d .last) (fails .1 .0) }
-
-pub cond-most : (test : Bool) (m n : ℕ) → cond test m n ≤ max m n
-cond-most true m n = omega arith
-cond-most false m n = omega arith
-
-pub way-most : (at : Station) → wayForm at ≤ 16
-way-most A = omega arith
-way-most B = omega arith

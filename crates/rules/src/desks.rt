@@ -1,8 +1,8 @@
 // A station's desk after each kind. Every figure that is not named stays as it was.
-ghost use mathlib.Core.Path.{_≡_};
 ghost use Prim.Native.Nat.{_-_};
-ghost use Rattle.rules.specs.Rules.{Room, clearsDesk, receivedDesk};
-ghost use Rattle.working.specs.Effects.{arriveDesk, ifAny, openDesk, otherDesk, ownDesk, returnDesk, throughDesk, trainDesk};
+ghost use Rattle.rules.specs.Rules.{Room, clearsDesk, departedDesk, receivedDesk};
+ghost use Rattle.working.specs.Effects.{arriveDesk, ifAny, otherDesk, ownDesk, returnDesk, trainDesk};
+ghost use mathlib.Core.Path.{_≡_};
 use section::station_number;
 use working::Desk;
 use working::Interval;
@@ -24,17 +24,17 @@ fn if_any(n: u8, before: u8) -> u8
     if 0 < n { n } else { before }
 }
 
-// A departure and nothing more, as of a THROUGH: the next form number, one more sent, and the interval starts.
-pub(crate) fn through_desk(d: Desk, time: u16) -> Desk
+// A departure that leaves `out` set or not, as of an OPEN or a THROUGH: the next form number, one more sent, and the interval starts.
+pub(crate) fn departed_desk(d: Desk, time: u16, out: bool) -> Desk
     requires { ⌜ Room d ⌝ }
-    ensures { λ r. ⌜ r ≡ throughDesk d time ⌝ }
+    ensures { λ r. ⌜ r ≡ departedDesk d time out ⌝ }
 {
     Desk {
         clock: time,
         last: d.last + 1,
         sent: d.sent + 1,
         interval: Interval::Since(time),
-        out: d.out,
+        out: out,
         guest: d.guest,
         asked: d.asked,
         holds: d.holds,
@@ -42,20 +42,11 @@ pub(crate) fn through_desk(d: Desk, time: u16) -> Desk
     }
 }
 
-pub(crate) fn open_desk(d: Desk, time: u16) -> Desk
-    requires { ⌜ Room d ⌝ }
-    ensures { λ r. ⌜ r ≡ openDesk d time ⌝ }
-{
-    let mut after = through_desk(d, time);
-    after.out = true;
-    after
-}
-
 pub(crate) fn return_desk(d: Desk, time: u16, granted: u8) -> Desk
     requires { ⌜ Room d ⌝ }
     ensures { λ r. ⌜ r ≡ returnDesk d time granted ⌝ }
 {
-    let mut after = through_desk(d, time);
+    let mut after = departed_desk(d, time, d.out);
     after.guest = 0;
     after.asked = 0;
     after.owes = if_any(granted, d.owes);
@@ -66,7 +57,7 @@ pub(crate) fn train_desk(d: Desk, time: u16, granted: u8) -> Desk
     requires { ⌜ Room d ⌝ }
     ensures { λ r. ⌜ r ≡ trainDesk d time granted ⌝ }
 {
-    let mut after = through_desk(d, time);
+    let mut after = departed_desk(d, time, d.out);
     after.holds = lowered(d.holds);
     if 0 < granted {
         after.owes = granted;

@@ -1,7 +1,7 @@
 // What a driver leaves with: the vehicle's record, its speed and its forms.
+ghost use Rattle.working.specs.Effects.{clearForms, followSpeed, openSpeed, trainSpeed, vehicleFor, wayForm};
 ghost use mathlib.Core.Bool.{cond};
 ghost use mathlib.Core.Path.{_≡_};
-ghost use Rattle.working.specs.Effects.{clearForms, followSpeed, openSpeed, trainSpeed, vehicleFor, wayForm};
 use section::other;
 use section::station_number;
 use working::Movement;

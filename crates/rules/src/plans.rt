@@ -1,13 +1,13 @@
-// What each kind comes to: a refusal, or the desk after it with what leaves. No departure reads the nearest vehicle, nor OPEN and THROUGH the station.
-ghost use mathlib.Core.Path.{_≡_};
-ghost use Rattle.working.specs.declared.Act.the-variants.{Opens, Passes, Receives, Returns, Runs};
+// What each kind comes to: a refusal, or the desk after it with what leaves. No departure reads the nearest vehicle.
+ghost use Rattle.rules.specs.Rules.{openPlan};
+ghost use Rattle.working.specs.Steps.{planOf};
+ghost use Rattle.working.specs.declared.Act.the-variants.{Receives, Returns, Runs};
 ghost use Rattle.working.specs.declared.Station.{Station};
 ghost use Rattle.working.specs.declared.Vehicle.{Vehicle};
-ghost use Rattle.working.specs.Steps.{planOf};
+ghost use mathlib.Core.Path.{_≡_};
 use crate::desks::arrive_desk;
-use crate::desks::open_desk;
+use crate::desks::departed_desk;
 use crate::desks::return_desk;
-use crate::desks::through_desk;
 use crate::desks::train_desk;
 use crate::orders::clear_forms;
 use crate::orders::open_speed;
@@ -26,33 +26,27 @@ use working::Vehicle;
 use working::Verdict;
 use working::View;
 
-fn open_plan(force: bool, d: Desk, time: u16, view: View, class: u8, asked: u8) -> Plan
-    ensures { λ r. ⌜ ((x : Station) (v : Vehicle) → r ≡ planOf (Opens view class asked) x force d time v) ⌝ }
+// An OPEN or a THROUGH, with what tells the two apart: out, what the vehicle leaves on, its class and its forms.
+fn open_plan(
+    force: bool,
+    d: Desk,
+    time: u16,
+    view: View,
+    out: bool,
+    movement: Movement,
+    class: u8,
+    forms: u16,
+) -> Plan
+    ensures { λ r. ⌜ r ≡ openPlan force d time view out movement class forms ⌝ }
 {
     let verdict = open_verdict(force, d, time);
     match verdict {
         Verdict::Refused(why) => Plan::Refuse(why),
         Verdict::Allowed => Plan::Depart {
-            desk: open_desk(d, time),
-            movement: Movement::Open { asked: asked },
+            desk: departed_desk(d, time, out),
+            movement: movement,
             class: class,
-            forms: 7,
-            speed: open_speed(view),
-        },
-    }
-}
-
-fn through_plan(force: bool, d: Desk, time: u16, view: View) -> Plan
-    ensures { λ r. ⌜ ((x : Station) (v : Vehicle) → r ≡ planOf (Passes view) x force d time v) ⌝ }
-{
-    let verdict = open_verdict(force, d, time);
-    match verdict {
-        Verdict::Refused(why) => Plan::Refuse(why),
-        Verdict::Allowed => Plan::Depart {
-            desk: through_desk(d, time),
-            movement: Movement::Through,
-            class: 1,
-            forms: 1,
+            forms: forms,
             speed: open_speed(view),
         },
     }
@@ -130,8 +124,11 @@ pub fn plan(act: Act, at: Station, force: bool, d: Desk, time: u16, nearest: Veh
     ensures { λ r. ⌜ r ≡ planOf act at force d time nearest ⌝ }
 {
     match act {
-        Act::Opens { view, class, asked } => open_plan(force, d, time, view, class, asked),
-        Act::Passes { view } => through_plan(force, d, time, view),
+        Act::Opens { view, class, asked } => {
+            let movement = Movement::Open { asked: asked };
+            open_plan(force, d, time, view, true, movement, class, 7)
+        }
+        Act::Passes { view } => open_plan(force, d, time, view, d.out, Movement::Through, 1, 1),
         Act::Returns { asked, granted } => return_plan(at, force, d, time, asked, granted),
         Act::Runs {
             view,

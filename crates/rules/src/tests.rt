@@ -1,8 +1,8 @@
 // What each kind is refused for. A function scans document 01's list of tests from the last to the first, so the first that holds is given.
-ghost use mathlib.Core.Path.{_≡_};
 ghost use Rattle.rules.specs.Rules.{inTime};
 ghost use Rattle.working.specs.Reasons.{departTests, isUnder, mayEnter, openTests, receiveTests, returnTests, trainTests};
 ghost use Rattle.working.specs.Refusals.{firstOf};
+ghost use mathlib.Core.Path.{_≡_};
 use section::is_named;
 use section::is_opener;
 use section::station_number;

@@ -2,3 +2,4 @@ pub mod Ends
 pub mod Padding
 pub mod Pads
 pub mod Passes
+pub mod Tallies

@@ -1,16 +1,16 @@
 -- A loop that writes a padded line over the places, from A's end on, one place a turn.
 -- Assumes nothing.
-use mathlib.Core.List.{List, [], _∷_, _++_, append-nil}
-use mathlib.Core.Path.{_≡_, refl, ap, _∙_, sym}
-use Prim.Native.Nat.{ℕ, zero, suc, _+_, _<_}
-use native.Mathlib.Nat.{not-suc-le-zero, add-comm}
+use Prim.Native.Nat.{_+_, _<_, suc, zero, ℕ}
+use Rattle.working.proofs.Made.{length-padTo}
+use Rattle.working.specs.Sections.{padTo, unused}
+use Rattle.working.specs.declared.Vehicle.{Vehicle}
+use lib.ListN.{drop, drop-of-length-le, getD, length, set, take}
+use lib.Seq.{getD-drop, take-all}
+use mathlib.Core.List.{List, [], _++_, _∷_, append-nil}
+use mathlib.Core.Path.{_∙_, _≡_, ap, refl, sym}
+use native.Mathlib.Nat.{add-comm, not-suc-le-zero}
 use native.Mathlib.Numerals.{add-one}
 use native.Mathlib.Omega.{arith}
-use lib.ListN.{length, take, drop, getD, set, drop-of-length-le}
-use lib.Seq.{take-all, getD-drop}
-use Rattle.working.proofs.Made.{length-padTo}
-use Rattle.working.specs.declared.Vehicle.{Vehicle}
-use Rattle.working.specs.Sections.{padTo, unused}
 
 -- the first i places are written, and place i is next
 store : (n : ℕ) (line old : List Vehicle) (i : ℕ) → i < n → length old ≡ n

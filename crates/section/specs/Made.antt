@@ -1,15 +1,15 @@
 -- What one pass over the vehicles finds, and a desk beside it: the clauses of `wellMade` in the groups in which the code tests them.
-use Prim.Native.Nat.{ℕ, _+_, _<_}
-use mathlib.Core.Bool.{Bool, not, cond, _&&_}
-use mathlib.Core.List.{List, [], _∷_}
-use lib.Dec.{leb}
+use Prim.Native.Nat.{_+_, _<_, ℕ}
 use Rattle.section.specs.declared.made.Survey.{Survey}
 use Rattle.section.specs.declared.made.Tally.{Tally}
+use Rattle.working.specs.Entries.{every}
+use Rattle.working.specs.WellMade.{all, countFrom, isBlank, isFrom, movementTests, notLater, numbered, oneIf, ordered, same, shaped}
 use Rattle.working.specs.declared.Desk.{Desk}
 use Rattle.working.specs.declared.Movement.{Movement}
 use Rattle.working.specs.declared.Vehicle.{Vehicle}
-use Rattle.working.specs.Entries.{every}
-use Rattle.working.specs.WellMade.{all, isFrom, movementTests, shaped, ordered, same, isBlank, oneIf, countFrom, numbered, notLater}
+use lib.Dec.{leb}
+use mathlib.Core.Bool.{Bool, _&&_, cond, not}
+use mathlib.Core.List.{List, [], _∷_}
 
 -- class, asked and granted are in the ranges of what the vehicle left on
 abbrev pub movementMade : Movement → ℕ → Bool

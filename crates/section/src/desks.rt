@@ -1,6 +1,6 @@
 // The desks and the count of a section.
-ghost use mathlib.Core.Path.{_≡_};
 ghost use Rattle.working.specs.Sections.{countRefusal, deskOf, emptied, withDesk};
+ghost use mathlib.Core.Path.{_≡_};
 use working::Desk;
 use working::Section;
 use working::Station;

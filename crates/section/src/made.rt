@@ -1,10 +1,10 @@
 // The test that a section is well made: one pass over the vehicles present, one over the unused places, the form numbers, then the desks.
 // The passes go from B's end to A's, as the definitions do, and pass no place by: a section is nearly always well made.
-ghost use mathlib.Core.Path.{_≡_};
-ghost use Prim.Native.Nat.{_≤_, _<_};
-ghost use lib.ListN.{drop, take};
+ghost use Prim.Native.Nat.{_<_, _≤_};
 ghost use Rattle.section.specs.Made.{Room, allBlank, counted, deskMadeWith, differsFrom, seen, surveyOf};
 ghost use Rattle.working.specs.WellMade.{differ, isFreshDesk, isStopped, notLater, oneIf, wellMade};
+ghost use lib.ListN.{drop, take};
+ghost use mathlib.Core.Path.{_≡_};
 use crate::vehicles::is_blank;
 use crate::vehicles::is_same;
 use crate::vehicles::is_shaped;
@@ -14,13 +14,13 @@ use working::Section;
 use working::Vehicle;
 
 // A station's vehicles among those passed: how many, and whether their form numbers are 1 to the desk's last.
-pub struct Tally {
+pub(crate) struct Tally {
     pub count: u8,
     pub numbered: bool,
 }
 
 // The vehicles passed: whether each is shaped, whether A's all stand nearer A than B's, whether all are B's, and each station's tally.
-pub struct Survey {
+pub(crate) struct Survey {
     pub shaped: bool,
     pub ordered: bool,
     pub alone: bool,

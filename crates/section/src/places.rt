@@ -1,11 +1,11 @@
 // The 24 places: the vehicles in order from A to B, and unused places behind them.
+ghost use Prim.Native.Nat.{min};
+ghost use Rattle.working.specs.Reasons.{findOf, mayMeet};
+ghost use Rattle.working.specs.Sections.{padTo, unused};
+ghost use lib.ListN.{drop, getD, set, take};
 ghost use mathlib.Core.Bool.{cond};
 ghost use mathlib.Core.List.{_∷_};
 ghost use mathlib.Core.Path.{_≡_};
-ghost use Prim.Native.Nat.{min};
-ghost use lib.ListN.{drop, getD, set, take};
-ghost use Rattle.working.specs.Reasons.{findOf, mayMeet};
-ghost use Rattle.working.specs.Sections.{padTo, unused};
 use crate::vehicles::is_named;
 use crate::vehicles::is_opener;
 use working::Section;
@@ -27,10 +27,11 @@ pub fn vehicle_at(places: [Vehicle; 24], i: usize) -> Vehicle
 pub fn with_vehicle_at(places: [Vehicle; 24], i: usize, v: Vehicle) -> [Vehicle; 24]
     ensures { λ r. ⌜ r ≡ set places i v ⌝ }
 {
-    let mut after = places;
-    if i < Section::PLACES {
-        after[i] = v;
+    if Section::PLACES <= i {
+        return places;
     }
+    let mut after = places;
+    after[i] = v;
     after
 }
 
@@ -54,16 +55,16 @@ pub fn removed_first(places: [Vehicle; 24]) -> [Vehicle; 24]
     ensures { λ r. ⌜ r ≡ padTo 24 (drop 1 places) ⌝ }
 {
     let mut after = places;
-    let mut i: usize = 0;
-    while i < Section::PLACES {
-        after[i] = vehicle_at(places, i + 1);
-        i += 1;
+    let mut to: usize = 0;
+    while to < Section::PLACES {
+        after[to] = vehicle_at(places, to + 1);
+        to += 1;
     }
     after
 }
 
 // As many vehicles as there are places for.
-pub(crate) fn present(len: usize) -> usize
+pub(crate) fn within_places(len: usize) -> usize
     ensures { λ r. ⌜ r ≡ min len 24 ⌝ }
 {
     if len < Section::PLACES {
@@ -84,7 +85,7 @@ pub(crate) fn place_if(found: bool, i: usize, later: usize) -> usize
 pub fn find(places: [Vehicle; 24], len: usize, sender: Station, form: u16) -> usize
     ensures { λ r. ⌜ r ≡ findOf sender form (take len places) ⌝ }
 {
-    let present = present(len);
+    let present = within_places(len);
     let mut found = present;
     let mut i = present;
     while 0 < i {
@@ -98,7 +99,7 @@ pub fn find(places: [Vehicle; 24], len: usize, sender: Station, form: u16) -> us
 pub fn may_meet(places: [Vehicle; 24], len: usize, i: usize) -> bool
     ensures { λ r. ⌜ r ≡ mayMeet (take len places) i ⌝ }
 {
-    let present = present(len);
+    let present = within_places(len);
     if present <= i {
         return false;
     }

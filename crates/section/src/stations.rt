@@ -1,6 +1,6 @@
 // The two stations.
-ghost use mathlib.Core.Path.{_≡_};
 ghost use Rattle.working.specs.Sections.{numberAt, otherAt};
+ghost use mathlib.Core.Path.{_≡_};
 use working::Station;
 
 // Station 1 is A, 2 is B.

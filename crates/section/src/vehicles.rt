@@ -1,8 +1,8 @@
 // One vehicle: what it left on, whose it is, and whether its record is well made.
-ghost use mathlib.Core.Path.{_≡_};
 ghost use Rattle.section.specs.Made.{movementMade};
 ghost use Rattle.working.specs.Reasons.{isNamed};
 ghost use Rattle.working.specs.WellMade.{isBlank, isBlankMovement, isOpener, same, shaped};
+ghost use mathlib.Core.Path.{_≡_};
 use crate::stations::station_number;
 use working::Movement;
 use working::Station;

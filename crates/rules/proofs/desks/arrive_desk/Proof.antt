@@ -1,9 +1,9 @@
 -- `desks::arrive_desk` meets its contract: the sender says which desk it is.
 -- Assumes nothing.
-use borrow.Author.Needs.{needs}
-use borrow.Author.Tests.{eq-eqb, ne-eqb}
 use Rattle.rules.proofs.desks.arrive_desk.Statement.{statement}
 use Rattle.rules.proofs.desks.arrive_desk.Tie as tie
+use borrow.Author.Needs.{needs}
+use borrow.Author.Tests.{eq-eqb, ne-eqb}
 
 station-number-requires : tie.Need-station-number-requires
 station-number-requires c κs = search needs

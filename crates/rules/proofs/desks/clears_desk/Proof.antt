@@ -1,8 +1,8 @@
 -- `desks::clears_desk` meets its contract: two figures are set.
 -- Assumes nothing.
-use borrow.Author.Needs.{needs}
 use Rattle.rules.proofs.desks.clears_desk.Statement.{statement}
 use Rattle.rules.proofs.desks.clears_desk.Tie as tie
+use borrow.Author.Needs.{needs}
 
 if-any-requires : tie.Need-if-any-requires
 if-any-requires c κs = search needs

@@ -1,8 +1,8 @@
 -- `desks::if_any` meets its contract: each arm is the definition's own.
 -- Assumes nothing.
-use borrow.Author.Tests.{lt-ltb, le-ltb}
 use Rattle.rules.proofs.desks.if_any.Statement.{statement}
 use Rattle.rules.proofs.desks.if_any.Tie as tie
+use borrow.Author.Tests.{le-ltb, lt-ltb}
 
 returns : tie.Need-returns
 returns c = rw (lt-ltb _ _ (c .if1 .taken))

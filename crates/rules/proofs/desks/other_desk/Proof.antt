@@ -1,8 +1,8 @@
 -- `desks::other_desk` meets its contract: each arm sets the figures that the definition names.
 -- Assumes nothing.
-use borrow.Author.Needs.{needs}
 use Rattle.rules.proofs.desks.other_desk.Statement.{statement}
 use Rattle.rules.proofs.desks.other_desk.Tie as tie
+use borrow.Author.Needs.{needs}
 
 received-desk-requires : tie.Need-received-desk-requires
 received-desk-requires c κs = search needs

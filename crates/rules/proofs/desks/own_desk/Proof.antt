@@ -1,8 +1,8 @@
 -- `desks::own_desk` meets its contract: each arm is the definition's own.
 -- Assumes nothing.
-use borrow.Author.Needs.{needs}
 use Rattle.rules.proofs.desks.own_desk.Statement.{statement}
 use Rattle.rules.proofs.desks.own_desk.Tie as tie
+use borrow.Author.Needs.{needs}
 
 enum-told : tie.Need-enum-told
 enum-told c = search needs

@@ -1,12 +1,23 @@
 -- `orders::clear_forms` meets its contract: the sum is the definition's, and is at most 182.
 -- Assumes nothing.
-use Prim.Native.Nat.{_+_, _≤_}
-use Rattle.rules.proofs.Laws.{cond-most, way-most}
-use borrow.Author.Needs.{needs}
-use lib.Dec.{ltb}
-use native.Mathlib.Omega.{arith}
+use Prim.Native.Nat.{_+_, _≤_, max, ℕ}
 use Rattle.rules.proofs.orders.clear_forms.Statement.{statement}
 use Rattle.rules.proofs.orders.clear_forms.Tie as tie
+use Rattle.working.specs.Effects.{wayForm}
+use Rattle.working.specs.declared.Station.the-variants.{A, B}
+use Rattle.working.specs.declared.Station.{Station}
+use borrow.Author.Needs.{needs}
+use lib.Dec.{ltb}
+use mathlib.Core.Bool.{Bool, cond, false, true}
+use native.Mathlib.Omega.{arith}
+
+cond-most : (test : Bool) (m n : ℕ) → cond test m n ≤ max m n
+cond-most true m n = omega arith
+cond-most false m n = omega arith
+
+way-most : (at : Station) → wayForm at ≤ 16
+way-most A = omega arith
+way-most B = omega arith
 
 most : (c : tie.After-form-by3) → c .before .before .before .way-form .result + 32 + c .before .before .form-by .result + c .before .form-by2 .result + c .form-by3 .result ≤ 182
 most c =

@@ -1,8 +1,8 @@
 -- `rules::vehicle_for` meets its contract: the sender is the station, and the heading the other.
 -- Assumes nothing.
-use borrow.Author.Needs.{needs}
 use Rattle.rules.proofs.orders.vehicle_for.Statement.{statement}
 use Rattle.rules.proofs.orders.vehicle_for.Tie as tie
+use borrow.Author.Needs.{needs}
 
 station-number-requires : tie.Need-station-number-requires
 station-number-requires c κs = search needs

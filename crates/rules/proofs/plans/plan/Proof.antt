@@ -1,8 +1,8 @@
 -- `rules::plan` meets its contract: each act has a function that is proved equal to its case of the definition.
 -- Assumes nothing.
-use borrow.Author.Needs.{needs}
 use Rattle.rules.proofs.plans.plan.Statement.{statement}
 use Rattle.rules.proofs.plans.plan.Tie as tie
+use borrow.Author.Needs.{needs}
 
 enum-known-act : tie.Need-enum-known-act
 enum-known-act c = search needs
@@ -13,8 +13,8 @@ open-plan-requires c κs = search needs
 enum-known-act-2 : tie.Need-enum-known-act-2
 enum-known-act-2 c = search needs
 
-through-plan-requires : tie.Need-through-plan-requires
-through-plan-requires c κs = search needs
+open-plan-requires-2 : tie.Need-open-plan-requires-2
+open-plan-requires-2 c κs = search needs
 
 enum-known-act-3 : tie.Need-enum-known-act-3
 enum-known-act-3 c = search needs
@@ -35,24 +35,16 @@ receive-plan-requires : tie.Need-receive-plan-requires
 receive-plan-requires c κs = search needs
 
 returns : tie.Need-returns
-returns c =
-    let a = c .before .before .before .before .args in
-    rw (c .before .before .act .given .1) (c .open-plan .ensures (a .at) (a .nearest))
+returns c = rw (c .before .before .act .given .1) (c .open-plan .ensures)
 
 returns-2 : tie.Need-returns-2
-returns-2 c =
-    let a = c .before .before .before .before .args in
-    rw (c .before .before .act2 .given .1) (c .through-plan .ensures (a .at) (a .nearest))
+returns-2 c = rw (c .before .before .act2 .given .1) (c .open-plan2 .ensures)
 
 returns-3 : tie.Need-returns-3
-returns-3 c =
-    let a = c .before .before .before .before .args in
-    rw (c .before .before .act3 .given .1) (c .return-plan .ensures (a .nearest))
+returns-3 c = rw (c .before .before .act3 .given .1) (c .return-plan .ensures (c .before .before .before .before .args .nearest))
 
 returns-4 : tie.Need-returns-4
-returns-4 c =
-    let a = c .before .before .before .before .args in
-    rw (c .before .before .act4 .given .1) (c .train-plan .ensures (a .nearest))
+returns-4 c = rw (c .before .before .act4 .given .1) (c .train-plan .ensures (c .before .before .before .before .args .nearest))
 
 returns-5 : tie.Need-returns-5
 returns-5 c = rw (c .before .before .act5 .given .1) (c .receive-plan .ensures)
@@ -64,7 +56,7 @@ plan-spec =
     enum-known-act
     open-plan-requires
     enum-known-act-2
-    through-plan-requires
+    open-plan-requires-2
     enum-known-act-3
     return-plan-requires
     enum-known-act-4

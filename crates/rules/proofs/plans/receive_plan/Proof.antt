@@ -1,8 +1,8 @@
 -- `plans::receive_plan` meets its contract: a refusal is the one that the tests gave, and what is allowed is what the definition writes out.
 -- Assumes nothing.
-use borrow.Author.Needs.{needs}
 use Rattle.rules.proofs.plans.receive_plan.Statement.{statement}
 use Rattle.rules.proofs.plans.receive_plan.Tie as tie
+use borrow.Author.Needs.{needs}
 
 receive-verdict-requires : tie.Need-receive-verdict-requires
 receive-verdict-requires c κs = search needs

@@ -1,11 +1,11 @@
 -- `plans::return_plan` meets its contract: a refusal is the one that the tests gave, and what is allowed is what the definition writes out.
 -- Assumes nothing.
 use Rattle.rules.proofs.Laws.{room}
+use Rattle.rules.proofs.plans.return_plan.Statement.{statement}
+use Rattle.rules.proofs.plans.return_plan.Tie as tie
 use Rattle.working.specs.Reasons.{returnTests}
 use borrow.Author.Needs.{needs}
 use mathlib.Core.Path.{_∙_, refl, sym}
-use Rattle.rules.proofs.plans.return_plan.Statement.{statement}
-use Rattle.rules.proofs.plans.return_plan.Tie as tie
 
 return-verdict-requires : tie.Need-return-verdict-requires
 return-verdict-requires c κs = search needs

@@ -1,8 +1,8 @@
 -- `tests::departure_verdict` meets its contract: the code scans the definition's tests from the last to the first.
 -- Assumes nothing.
-use borrow.Author.Needs.{needs}
 use Rattle.rules.proofs.tests.departure_verdict.Statement.{statement}
 use Rattle.rules.proofs.tests.departure_verdict.Tie as tie
+use borrow.Author.Needs.{needs}
 
 is-under-requires : tie.Need-is-under-requires
 is-under-requires c κs = search needs

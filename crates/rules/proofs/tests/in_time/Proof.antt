@@ -1,8 +1,8 @@
 -- `tests::in_time` meets its contract: the two tests are the definition's, in its order.
 -- Assumes nothing.
-use borrow.Author.Needs.{needs}
 use Rattle.rules.proofs.tests.in_time.Statement.{statement}
 use Rattle.rules.proofs.tests.in_time.Tie as tie
+use borrow.Author.Needs.{needs}
 
 refuse-if-requires : tie.Need-refuse-if-requires
 refuse-if-requires c κs = search needs

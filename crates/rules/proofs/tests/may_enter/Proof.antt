@@ -1,9 +1,9 @@
 -- `tests::may_enter` meets its contract: the sender says which test it is.
 -- Assumes nothing.
-use borrow.Author.Needs.{needs}
-use borrow.Author.Tests.{eq-eqb, ne-eqb}
 use Rattle.rules.proofs.tests.may_enter.Statement.{statement}
 use Rattle.rules.proofs.tests.may_enter.Tie as tie
+use borrow.Author.Needs.{needs}
+use borrow.Author.Tests.{eq-eqb, ne-eqb}
 
 station-number-requires : tie.Need-station-number-requires
 station-number-requires c κs = search needs

@@ -1,8 +1,8 @@
 -- `tests::receive_verdict` meets its contract: the code scans the definition's tests from the last to the first.
 -- Assumes nothing.
-use borrow.Author.Needs.{needs}
 use Rattle.rules.proofs.tests.receive_verdict.Statement.{statement}
 use Rattle.rules.proofs.tests.receive_verdict.Tie as tie
+use borrow.Author.Needs.{needs}
 
 may-enter-requires : tie.Need-may-enter-requires
 may-enter-requires c κs = search needs

@@ -1,8 +1,8 @@
 -- `tests::train_verdict` meets its contract: the code scans the definition's tests from the last to the first.
 -- Assumes nothing.
-use borrow.Author.Needs.{needs}
 use Rattle.rules.proofs.tests.train_verdict.Statement.{statement}
 use Rattle.rules.proofs.tests.train_verdict.Tie as tie
+use borrow.Author.Needs.{needs}
 
 departure-verdict-requires : tie.Need-departure-verdict-requires
 departure-verdict-requires c κs = search needs

@@ -1,9 +1,9 @@
 -- `section::count_refusal` meets its contract: the count grows where the test holds, as the definition says.
 -- Assumes nothing.
-use borrow.Author.Needs.{needs}
-use borrow.Author.Tests.{lt-ltb, le-ltb}
 use Rattle.section.proofs.desks.count_refusal.Statement.{statement}
 use Rattle.section.proofs.desks.count_refusal.Tie as tie
+use borrow.Author.Needs.{needs}
+use borrow.Author.Tests.{le-ltb, lt-ltb}
 
 add-after : tie.Need-add-after
 add-after c = search needs

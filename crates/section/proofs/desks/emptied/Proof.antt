@@ -1,8 +1,8 @@
 -- `section::emptied` meets its contract: the fresh section with two figures set.
 -- Assumes nothing.
-use borrow.Author.Needs.{needs}
 use Rattle.section.proofs.desks.emptied.Statement.{statement}
 use Rattle.section.proofs.desks.emptied.Tie as tie
+use borrow.Author.Needs.{needs}
 
 fresh-requires : tie.Need-fresh-requires
 fresh-requires c κs = search needs

@@ -1,8 +1,8 @@
 -- `section::with_desk` meets its contract: each arm is the definition's own.
 -- Assumes nothing.
-use borrow.Author.Needs.{needs}
 use Rattle.section.proofs.desks.with_desk.Statement.{statement}
 use Rattle.section.proofs.desks.with_desk.Tie as tie
+use borrow.Author.Needs.{needs}
 
 enum-told : tie.Need-enum-told
 enum-told c = search needs

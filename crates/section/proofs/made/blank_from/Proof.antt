@@ -2,15 +2,15 @@
 -- Assumes nothing.
 use Prim.Native.Nat.{_≤_}
 use Rattle.section.proofs.Passes.{drop-back}
+use Rattle.section.proofs.made.blank_from.Statement.{statement}
+use Rattle.section.proofs.made.blank_from.Tie as tie
 use Rattle.section.specs.Made.{allBlank}
 use Rattle.working.specs.Sections.{unused}
 use borrow.Author.Needs.{needs}
-use lib.ListN.{length, drop, drop-of-length-le}
+use lib.ListN.{drop, drop-of-length-le, length}
 use mathlib.Core.Bool.{_&&_}
 use mathlib.Core.Path.{_≡_, ap₂}
 use native.Mathlib.Omega.{arith}
-use Rattle.section.proofs.made.blank_from.Statement.{statement}
-use Rattle.section.proofs.made.blank_from.Tie as tie
 
 abbrev Inv-loop : tie.InvT-loop
 Inv-loop from places blank₀ i₀ blank i = (i ≤ 24) × (from ≤ i) × (blank ≡ allBlank (drop i places))

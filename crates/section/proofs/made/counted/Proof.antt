@@ -1,11 +1,11 @@
 -- `made::counted` meets its contract: one more is counted where the station sent it, and its form number is tested there.
 -- Assumes nothing.
-use Rattle.section.proofs.Passes.{one-most}
+use Rattle.section.proofs.Tallies.{one-most}
+use Rattle.section.proofs.made.counted.Statement.{statement}
+use Rattle.section.proofs.made.counted.Tie as tie
 use borrow.Author.Needs.{needs}
 use lib.Dec.{eqb}
 use native.Mathlib.Omega.{arith}
-use Rattle.section.proofs.made.counted.Statement.{statement}
-use Rattle.section.proofs.made.counted.Tie as tie
 
 one-if-requires : tie.Need-one-if-requires
 one-if-requires c κs = search needs

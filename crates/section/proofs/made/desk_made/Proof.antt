@@ -1,9 +1,9 @@
 -- `made::desk_made` meets its contract: the code joins the definition's tests in its order.
 -- Assumes nothing.
-use borrow.Author.Needs.{needs}
-use mathlib.Core.Bool.{and-assoc, and-true}
 use Rattle.section.proofs.made.desk_made.Statement.{statement}
 use Rattle.section.proofs.made.desk_made.Tie as tie
+use borrow.Author.Needs.{needs}
+use mathlib.Core.Bool.{and-assoc, and-true}
 
 is-not-later-requires : tie.Need-is-not-later-requires
 is-not-later-requires c κs = search needs

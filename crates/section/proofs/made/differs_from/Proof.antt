@@ -1,16 +1,16 @@
 -- `made::differs_from` meets its contract. The loop's invariant: the vehicles from place `i` on are tested.
 -- Assumes nothing.
 use Prim.Native.Nat.{_≤_}
-use Rattle.section.proofs.Passes.{drop-end, drop-down}
+use Rattle.section.proofs.Passes.{drop-down, drop-end}
+use Rattle.section.proofs.made.differs_from.Statement.{statement}
+use Rattle.section.proofs.made.differs_from.Tie as tie
 use Rattle.section.specs.Made.{differsFrom}
 use Rattle.working.specs.Sections.{unused}
 use borrow.Author.Needs.{needs}
-use lib.ListN.{length, take, drop}
-use mathlib.Core.Bool.{not, _&&_}
+use lib.ListN.{drop, length, take}
+use mathlib.Core.Bool.{_&&_, not}
 use mathlib.Core.Path.{_≡_, ap, ap₂}
 use native.Mathlib.Omega.{arith}
-use Rattle.section.proofs.made.differs_from.Statement.{statement}
-use Rattle.section.proofs.made.differs_from.Tie as tie
 
 abbrev Inv-loop : tie.InvT-loop
 Inv-loop from len v places differs₀ i₀ differs i = (i ≤ len) × (from ≤ i) × (differs ≡ differsFrom v (drop i (take len places)))

@@ -1,16 +1,16 @@
 -- `made::forms_differ` meets its contract. The loop's invariant: the vehicles from place `i` on differ among themselves.
 -- Assumes nothing.
 use Prim.Native.Nat.{_≤_}
-use Rattle.section.proofs.Passes.{drop-end, drop-down}
+use Rattle.section.proofs.Passes.{drop-down, drop-end}
+use Rattle.section.proofs.made.forms_differ.Statement.{statement}
+use Rattle.section.proofs.made.forms_differ.Tie as tie
 use Rattle.working.specs.Sections.{unused}
 use Rattle.working.specs.WellMade as made
 use borrow.Author.Needs.{needs}
-use lib.ListN.{length, take, drop}
+use lib.ListN.{drop, length, take}
 use mathlib.Core.Bool.{_&&_}
 use mathlib.Core.Path.{_≡_, ap₂}
 use native.Mathlib.Omega.{arith}
-use Rattle.section.proofs.made.forms_differ.Statement.{statement}
-use Rattle.section.proofs.made.forms_differ.Tie as tie
 
 abbrev Inv-loop : tie.InvT-loop
 Inv-loop len places differ₀ i₀ differ i = (i ≤ len) × (differ ≡ made.differ (drop i (take len places)))

@@ -1,9 +1,9 @@
 -- `made::is_fresh` meets its contract: the code joins the definition's tests in its order.
 -- Assumes nothing.
-use borrow.Author.Needs.{needs}
-use mathlib.Core.Bool.{and-assoc, and-true}
 use Rattle.section.proofs.made.is_fresh.Statement.{statement}
 use Rattle.section.proofs.made.is_fresh.Tie as tie
+use borrow.Author.Needs.{needs}
+use mathlib.Core.Bool.{and-assoc, and-true}
 
 is-stopped-requires : tie.Need-is-stopped-requires
 is-stopped-requires c κs = search needs

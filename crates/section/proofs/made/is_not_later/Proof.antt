@@ -1,8 +1,8 @@
 -- `made::is_not_later` meets its contract: each arm is the definition's own.
 -- Assumes nothing.
-use borrow.Author.Needs.{needs}
 use Rattle.section.proofs.made.is_not_later.Statement.{statement}
 use Rattle.section.proofs.made.is_not_later.Tie as tie
+use borrow.Author.Needs.{needs}
 
 enum-told : tie.Need-enum-told
 enum-told c = search needs

@@ -1,15 +1,16 @@
 -- `made::survey_of` meets its contract. The loop's invariant: the vehicles from place `i` on are surveyed.
 -- Assumes nothing.
 use Prim.Native.Nat.{_≤_}
-use Rattle.section.proofs.Passes.{drop-end, drop-down, room}
+use Rattle.section.proofs.Passes.{drop-down, drop-end}
+use Rattle.section.proofs.Tallies.{room}
+use Rattle.section.proofs.made.survey_of.Statement.{statement}
+use Rattle.section.proofs.made.survey_of.Tie as tie
 use Rattle.section.specs.Made.{surveyOf}
 use Rattle.working.specs.Sections.{unused}
 use borrow.Author.Needs.{needs}
-use lib.ListN.{length, take, drop, length-take, length-drop}
-use mathlib.Core.Path.{_≡_, _∙_, ap}
+use lib.ListN.{drop, length, length-drop, length-take, take}
+use mathlib.Core.Path.{_≡_}
 use native.Mathlib.Omega.{arith}
-use Rattle.section.proofs.made.survey_of.Statement.{statement}
-use Rattle.section.proofs.made.survey_of.Tie as tie
 
 abbrev Inv-loop : tie.InvT-loop
 Inv-loop len last-a last-b places line₀ i₀ line i = (i ≤ len) × (line ≡ surveyOf last-a last-b (drop i (take len places)))

@@ -1,14 +1,14 @@
 -- `section::well_made` meets its contract: a length beyond the places fails the first test, and within them the code joins
 -- the definition's tests in its order, each as its own function found it.
 -- Assumes nothing.
+use Rattle.section.proofs.made.well_made.Statement.{statement}
+use Rattle.section.proofs.made.well_made.Tie as tie
 use Rattle.working.specs.WellMade.{wellMade}
 use borrow.Author.Needs.{needs}
 use borrow.Author.Tests.{le-leb, lt-leb}
 use lib.Dec.{eqb}
-use mathlib.Core.Bool.{Bool, true, _&&_, _||_, and-assoc, and-true}
-use mathlib.Core.Path.{_≡_, _∙_}
-use Rattle.section.proofs.made.well_made.Statement.{statement}
-use Rattle.section.proofs.made.well_made.Tie as tie
+use mathlib.Core.Bool.{Bool, _&&_, _||_, and-assoc, and-true, true}
+use mathlib.Core.Path.{_∙_, _≡_}
 
 joined : (blank shaped ordered differ a b force empty freshA freshB : Bool)
     → (blank && shaped && ordered && differ && (a && b) && (force || empty && freshA && freshB))

@@ -2,16 +2,16 @@
 -- and the vehicle in hand is the next to be stored.
 -- Assumes nothing.
 use Prim.Native.Nat.{_-_, _≤_}
-use Rattle.section.proofs.Padding.{stored, all-stored}
+use Rattle.section.proofs.Padding.{all-stored, stored}
+use Rattle.section.proofs.places.inserted_first.Statement.{statement}
+use Rattle.section.proofs.places.inserted_first.Tie as tie
 use Rattle.working.specs.Sections.{padTo, unused}
 use borrow.Author.Needs.{needs}
-use lib.ListN.{length, take, drop, getD}
-use mathlib.Core.List.{_∷_, _++_}
+use lib.ListN.{drop, getD, length, take}
+use mathlib.Core.List.{_++_, _∷_}
 use mathlib.Core.Path.{_≡_, refl}
 use native.Mathlib.Numerals.{add-one}
 use native.Mathlib.Omega.{arith}
-use Rattle.section.proofs.places.inserted_first.Statement.{statement}
-use Rattle.section.proofs.places.inserted_first.Tie as tie
 
 abbrev Inv-loop : tie.InvT-loop
 Inv-loop places after₀ next₀ i₀ after next i = (i ≤ 24) × (after ≡ take i (padTo 24 (next₀ ∷ places)) ++ drop i places) × (next ≡ getD (next₀ ∷ places) i unused)

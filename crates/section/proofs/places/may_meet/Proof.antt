@@ -1,19 +1,19 @@
 -- `section::may_meet` meets its contract: off the line the first test fails, and on it the code joins the others in their order.
 -- Assumes nothing.
 use Prim.Native.Nat.{_+_, _<_, _≤_}
+use Rattle.section.proofs.places.may_meet.Statement.{statement}
+use Rattle.section.proofs.places.may_meet.Tie as tie
 use Rattle.working.specs.Sections.{unused}
 use borrow.Author.Needs.{needs}
-use borrow.Author.Tests.{lt-ltb, le-ltb}
-use lib.ListN.{length, take, length-take}
+use borrow.Author.Tests.{le-ltb, lt-ltb}
+use lib.ListN.{length, length-take, take}
 use lib.Seq.{getD-take}
 use mathlib.Core.Bool.{and-assoc, and-true}
 use mathlib.Core.Path.{_≡_}
 use native.Mathlib.Omega.{arith}
-use Rattle.section.proofs.places.may_meet.Statement.{statement}
-use Rattle.section.proofs.places.may_meet.Tie as tie
 
-present-requires : tie.Need-present-requires
-present-requires c κs = search needs
+within-places-requires : tie.Need-within-places-requires
+within-places-requires c κs = search needs
 
 returns : tie.Need-returns
 returns c =
@@ -64,7 +64,7 @@ pub may-meet-spec : {M : Type 1} → statement M
 may-meet-spec =
     tie.close
     (tie.spec
-    present-requires
+    within-places-requires
     returns
     add-next
     returns-2

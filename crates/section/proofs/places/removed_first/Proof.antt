@@ -1,21 +1,21 @@
--- `section::removed_first` meets its contract. The loop's invariant: the places before `i` are written, and the others are as they were.
+-- `section::removed_first` meets its contract. The loop's invariant: the places before `to` are written, and the others are as they were.
 -- Assumes nothing.
 use Prim.Native.Nat.{_-_, _≤_}
-use Rattle.section.proofs.Padding.{stored, all-stored, next-place}
+use Rattle.section.proofs.Padding.{all-stored, next-place, stored}
+use Rattle.section.proofs.places.removed_first.Statement.{statement}
+use Rattle.section.proofs.places.removed_first.Tie as tie
 use Rattle.working.specs.Sections.{padTo}
 use borrow.Author.Needs.{needs}
-use lib.ListN.{length, take, drop}
+use lib.ListN.{drop, length, take}
 use mathlib.Core.List.{_++_}
 use mathlib.Core.Path.{_≡_, refl}
 use native.Mathlib.Omega.{arith}
-use Rattle.section.proofs.places.removed_first.Statement.{statement}
-use Rattle.section.proofs.places.removed_first.Tie as tie
 
 abbrev Inv-loop : tie.InvT-loop
-Inv-loop places after₀ i₀ after i = (i ≤ 24) × (after ≡ take i (padTo 24 (drop 1 places)) ++ drop i places)
+Inv-loop places after₀ to₀ after to = (to ≤ 24) × (after ≡ take to (padTo 24 (drop 1 places)) ++ drop to places)
 
 abbrev μ-loop : tie.MeasureT-loop
-μ-loop places after₀ i₀ after i = 24 - i
+μ-loop places after₀ to₀ after to = 24 - to
 
 loop-holds : tie.Need-loop-holds Inv-loop μ-loop
 loop-holds c = (search needs, refl)
@@ -32,8 +32,8 @@ mul-after c = omega arith
 array-set-from-after : tie.Need-array-set-from-after Inv-loop μ-loop
 array-set-from-after c = omega arith
 
-add-i : tie.Need-add-i Inv-loop μ-loop
-add-i c = omega arith
+add-to : tie.Need-add-to Inv-loop μ-loop
+add-to c = omega arith
 
 loop-less : tie.Need-loop-less Inv-loop μ-loop
 loop-less c = omega arith
@@ -43,14 +43,14 @@ loop-again c =
     let l = c .before .before .loop in
     let places = c .before .before .before .args .places in
     let long : length places ≡ 24 = search needs in
-    (omega arith, rw (l .inv .1, c .vehicle-at .ensures, next-place places (l .i)) (stored (drop 1 places) places (l .i) (omega arith) long))
+    (omega arith, rw (l .inv .1, c .vehicle-at .ensures, next-place places (l .to)) (stored (drop 1 places) places (l .to) (omega arith) long))
 
 returns : tie.Need-returns Inv-loop μ-loop
 returns c =
     let l = c .before .loop in
     let places = c .before .before .args .places in
     let long : length places ≡ 24 = search needs in
-    all-stored (drop 1 places) places (l .i) (omega arith) long (l .inv .1)
+    all-stored (drop 1 places) places (l .to) (omega arith) long (l .inv .1)
 
 pub removed-first-spec : {M : Type 1} → statement M
 removed-first-spec =
@@ -63,7 +63,7 @@ removed-first-spec =
     vehicle-at-requires
     mul-after
     array-set-from-after
-    add-i
+    add-to
     loop-less
     loop-again
     returns)

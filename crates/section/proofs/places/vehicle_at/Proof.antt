@@ -1,12 +1,12 @@
 -- `section::vehicle_at` meets its contract: past the last place a read of the list gives the unused place.
 -- Assumes nothing.
-use Rattle.working.specs.Sections.{unused}
-use borrow.Author.Needs.{needs}
-use lib.ListN.{length, List·getD-eq-default}
-use mathlib.Core.Path.{_≡_, _∙_, sym}
-use native.Mathlib.Omega.{arith}
 use Rattle.section.proofs.places.vehicle_at.Statement.{statement}
 use Rattle.section.proofs.places.vehicle_at.Tie as tie
+use Rattle.working.specs.Sections.{unused}
+use borrow.Author.Needs.{needs}
+use lib.ListN.{List·getD-eq-default, length}
+use mathlib.Core.Path.{_∙_, _≡_, sym}
+use native.Mathlib.Omega.{arith}
 
 mul-result : tie.Need-mul-result
 mul-result c = search needs

@@ -1,9 +1,9 @@
 -- `vehicles::is_blank` meets its contract: the code joins the definition's tests in its order.
 -- Assumes nothing.
-use borrow.Author.Needs.{needs}
-use mathlib.Core.Bool.{and-assoc, and-true}
 use Rattle.section.proofs.vehicles.is_blank.Statement.{statement}
 use Rattle.section.proofs.vehicles.is_blank.Tie as tie
+use borrow.Author.Needs.{needs}
+use mathlib.Core.Bool.{and-assoc, and-true}
 
 is-blank-movement-requires : tie.Need-is-blank-movement-requires
 is-blank-movement-requires c κs = search needs

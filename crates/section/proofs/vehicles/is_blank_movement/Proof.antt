@@ -1,8 +1,8 @@
 -- `vehicles::is_blank_movement` meets its contract: each arm is the definition's own.
 -- Assumes nothing.
-use borrow.Author.Needs.{needs}
 use Rattle.section.proofs.vehicles.is_blank_movement.Statement.{statement}
 use Rattle.section.proofs.vehicles.is_blank_movement.Tie as tie
+use borrow.Author.Needs.{needs}
 
 enum-known-movement : tie.Need-enum-known-movement
 enum-known-movement c = search needs

@@ -1,8 +1,8 @@
 -- `section::is_named` meets its contract: both figures are compared.
 -- Assumes nothing.
-use borrow.Author.Needs.{needs}
 use Rattle.section.proofs.vehicles.is_named.Statement.{statement}
 use Rattle.section.proofs.vehicles.is_named.Tie as tie
+use borrow.Author.Needs.{needs}
 
 station-number-requires : tie.Need-station-number-requires
 station-number-requires c κs = search needs

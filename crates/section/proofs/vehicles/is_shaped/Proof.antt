@@ -1,9 +1,9 @@
 -- `vehicles::is_shaped` meets its contract: the code joins the definition's tests in its order.
 -- Assumes nothing.
-use borrow.Author.Needs.{needs}
-use mathlib.Core.Bool.{and-assoc, and-true}
 use Rattle.section.proofs.vehicles.is_shaped.Statement.{statement}
 use Rattle.section.proofs.vehicles.is_shaped.Tie as tie
+use borrow.Author.Needs.{needs}
+use mathlib.Core.Bool.{and-assoc, and-true}
 
 is-opener-requires : tie.Need-is-opener-requires
 is-opener-requires c κs = search needs

@@ -1,9 +1,9 @@
 -- `vehicles::movement_made` meets its contract: each arm joins the tests that the definition lists for it.
 -- Assumes nothing.
-use borrow.Author.Needs.{needs}
-use mathlib.Core.Bool.{and-assoc, and-true}
 use Rattle.section.proofs.vehicles.movement_made.Statement.{statement}
 use Rattle.section.proofs.vehicles.movement_made.Tie as tie
+use borrow.Author.Needs.{needs}
+use mathlib.Core.Bool.{and-assoc, and-true}
 
 enum-known-movement : tie.Need-enum-known-movement
 enum-known-movement c = search needs

@@ -6,9 +6,9 @@ ghost use lib.ListN.{take};
 ghost use Rattle.working.specs.Sections.{padTo, insertAt, lineOf, nearestAt, removeAt, withLine};
 ghost use Rattle.working.specs.Steps.{metAt, turnAt, turned};
 use crate::places::inserted_first;
-use crate::places::present;
 use crate::places::removed_first;
 use crate::places::with_vehicle_at;
+use crate::places::within_places;
 use crate::stations::station_number;
 use working::Section;
 use working::Station;
@@ -33,7 +33,7 @@ pub fn nearest(s: Section, at: Station) -> Vehicle
     ensures { λ r. ⌜ r ≡ nearestAt at (lineOf s) ⌝ }
 {
     let places = s.vehicles;
-    let present = present(s.len);
+    let present = within_places(s.len);
     if present == 0 {
         return Vehicle::unused();
     }
@@ -48,7 +48,7 @@ pub fn with_inserted(s: Section, at: Station, v: Vehicle) -> Section
     ensures { λ r. ⌜ r ≡ withLine s (insertAt at v (lineOf s)) ⌝ }
 {
     let places = s.vehicles;
-    let present = present(s.len);
+    let present = within_places(s.len);
     let line = blanked(places, present);
     let mut after = s;
     after.len = present + 1;
@@ -78,7 +78,7 @@ pub fn with_removed(s: Section, at: Station) -> Section
     ensures { λ r. ⌜ r ≡ withLine s (removeAt at (lineOf s)) ⌝ }
 {
     let places = s.vehicles;
-    let present = present(s.len);
+    let present = within_places(s.len);
     let left = fewer(present);
     let mut after = s;
     after.len = left;
@@ -124,7 +124,7 @@ pub fn with_met(s: Section, to: Station, i: usize) -> Section
     ensures { λ r. ⌜ r ≡ withLine s (metAt to i (lineOf s)) ⌝ }
 {
     let places = s.vehicles;
-    let present = present(s.len);
+    let present = within_places(s.len);
     let mut after = s;
     after.len = present;
     if present <= i {

@@ -13,8 +13,8 @@ use native.Mathlib.Omega.{arith}
 long : (c : tie.Start) → length (c .args .s .vehicles) ≡ 24
 long c = simp length-map at (c .good .0 .1 .1 .0 .1 .0 .1)
 
-present-requires : tie.Need-present-requires
-present-requires c κs = search needs
+within-places-requires : tie.Need-within-places-requires
+within-places-requires c κs = search needs
 
 unused-requires : tie.Need-unused-requires
 unused-requires c κs = search needs
@@ -23,7 +23,7 @@ returns : tie.Need-returns
 returns c =
     let start = c .before .before .before .before in
     let s = start .args .s in
-    c .unused .ensures ∙ sym (near-none (start .args .at) (lineOf s) (omega (arith, line-length (s .vehicles) (s .len) (long start), c .before .before .present .ensures)))
+    c .unused .ensures ∙ sym (near-none (start .args .at) (lineOf s) (omega (arith, line-length (s .vehicles) (s .len) (long start), c .before .before .within-places .ensures)))
 
 enum-told : tie.Need-enum-told
 enum-told c = search needs
@@ -47,20 +47,20 @@ returns-2 : tie.Need-returns-2
 returns-2 c =
     let start = c .before .before .before .before .before .before in
     let s = start .args .s in
-    rw (c .before .enum-told .given .1) (near-first (s .vehicles) (s .len) (long start) (omega (arith, c .before .before .before .before .present .ensures)))
+    rw (c .before .enum-told .given .1) (near-first (s .vehicles) (s .len) (long start) (omega (arith, c .before .before .before .before .within-places .ensures)))
 
 returns-3 : tie.Need-returns-3
 returns-3 c =
     let start = c .before .before .before .before .before .before in
     let s = start .args .s in
-    let present = c .before .before .before .before .present .ensures in
+    let present = c .before .before .before .before .within-places .ensures in
     rw (c .before .enum-told2 .given .1, present) (near-last (s .vehicles) (s .len) (long start) (omega arith))
 
 pub nearest-spec : {M : Type 1} → statement M
 nearest-spec =
     tie.close
     (tie.spec
-    present-requires
+    within-places-requires
     unused-requires
     returns
     enum-told

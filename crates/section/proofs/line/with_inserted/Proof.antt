@@ -11,8 +11,8 @@ use mathlib.Core.Path.{_≡_}
 long : (c : tie.Start) → length (c .args .s .vehicles) ≡ 24
 long c = simp length-map at (c .good .0 .1 .1 .0 .1 .0 .1)
 
-present-requires : tie.Need-present-requires
-present-requires c κs = search needs
+within-places-requires : tie.Need-within-places-requires
+within-places-requires c κs = search needs
 
 blanked-requires : tie.Need-blanked-requires
 blanked-requires c κs = search needs
@@ -36,19 +36,19 @@ returns : tie.Need-returns
 returns c =
     let start = c .before .before .before .before .before .before in
     rw (c .before .enum-told .given .1)
-    (enters-A (start .args .s) (long start) (c .before .before .before .before .present .ensures) (start .args .v) (c .before .before .before .blanked .ensures) (c .inserted-first .ensures))
+    (enters-A (start .args .s) (long start) (c .before .before .before .before .within-places .ensures) (start .args .v) (c .before .before .before .blanked .ensures) (c .inserted-first .ensures))
 
 returns-2 : tie.Need-returns-2
 returns-2 c =
     let start = c .before .before .before .before .before .before in
     rw (c .before .enum-told2 .given .1)
-    (enters-B (start .args .s) (long start) (c .before .before .before .before .present .ensures) (start .args .v) (c .before .before .before .blanked .ensures) (c .with-vehicle-at .ensures))
+    (enters-B (start .args .s) (long start) (c .before .before .before .before .within-places .ensures) (start .args .v) (c .before .before .before .blanked .ensures) (c .with-vehicle-at .ensures))
 
 pub with-inserted-spec : {M : Type 1} → statement M
 with-inserted-spec =
     tie.close
     (tie.spec
-    present-requires
+    within-places-requires
     blanked-requires
     add-after
     enum-told

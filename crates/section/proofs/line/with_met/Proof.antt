@@ -11,8 +11,8 @@ use mathlib.Core.Path.{_≡_}
 long : (c : tie.Start) → length (c .args .s .vehicles) ≡ 24
 long c = simp length-map at (c .good .0 .1 .1 .0 .1 .0 .1)
 
-present-requires : tie.Need-present-requires
-present-requires c κs = search needs
+within-places-requires : tie.Need-within-places-requires
+within-places-requires c κs = search needs
 
 blanked-requires : tie.Need-blanked-requires
 blanked-requires c κs = search needs
@@ -20,7 +20,7 @@ blanked-requires c κs = search needs
 returns : tie.Need-returns
 returns c =
     let start = c .before .before .before .before in
-    meets-none (start .args .s) (long start) (c .before .before .present .ensures) (start .args .to) (start .args .i) (c .before .if1 .taken) (c .blanked .ensures)
+    meets-none (start .args .s) (long start) (c .before .before .within-places .ensures) (start .args .to) (start .args .i) (c .before .if1 .taken) (c .blanked .ensures)
 
 with-turned-requires : tie.Need-with-turned-requires
 with-turned-requires c κs = search needs
@@ -34,13 +34,13 @@ with-turned-requires-2 c κs = search needs
 returns-2 : tie.Need-returns-2
 returns-2 c =
     let start = c .before .before .before .before .before in
-    meets-two (start .args .s) (long start) (c .before .before .before .present .ensures) (start .args .to) (start .args .i) (c .before .with-turned .ensures) (c .with-turned2 .ensures)
+    meets-two (start .args .s) (long start) (c .before .before .before .within-places .ensures) (start .args .to) (start .args .i) (c .before .with-turned .ensures) (c .with-turned2 .ensures)
 
 pub with-met-spec : {M : Type 1} → statement M
 with-met-spec =
     tie.close
     (tie.spec
-    present-requires
+    within-places-requires
     blanked-requires
     returns
     with-turned-requires

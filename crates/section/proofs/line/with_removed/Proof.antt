@@ -11,8 +11,8 @@ use mathlib.Core.Path.{_≡_}
 long : (c : tie.Start) → length (c .args .s .vehicles) ≡ 24
 long c = simp length-map at (c .good .0 .1 .1 .0 .1 .0 .1)
 
-present-requires : tie.Need-present-requires
-present-requires c κs = search needs
+within-places-requires : tie.Need-within-places-requires
+within-places-requires c κs = search needs
 
 fewer-requires : tie.Need-fewer-requires
 fewer-requires c κs = search needs
@@ -36,19 +36,19 @@ returns : tie.Need-returns
 returns c =
     let start = c .before .before .before .before .before .before .before in
     rw (c .before .before .enum-told .given .1)
-    (leaves-A (start .args .s) (long start) (c .before .before .before .before .before .present .ensures) (c .before .blanked .ensures) (c .removed-first .ensures) (c .before .before .before .before .fewer .ensures))
+    (leaves-A (start .args .s) (long start) (c .before .before .before .before .before .within-places .ensures) (c .before .blanked .ensures) (c .removed-first .ensures) (c .before .before .before .before .fewer .ensures))
 
 returns-2 : tie.Need-returns-2
 returns-2 c =
     let start = c .before .before .before .before .before .before in
     rw (c .before .enum-told2 .given .1)
-    (leaves-B (start .args .s) (long start) (c .before .before .before .before .present .ensures) (c .blanked2 .ensures) (c .before .before .before .fewer .ensures))
+    (leaves-B (start .args .s) (long start) (c .before .before .before .before .within-places .ensures) (c .blanked2 .ensures) (c .before .before .before .fewer .ensures))
 
 pub with-removed-spec : {M : Type 1} → statement M
 with-removed-spec =
     tie.close
     (tie.spec
-    present-requires
+    within-places-requires
     fewer-requires
     enum-told
     blanked-requires

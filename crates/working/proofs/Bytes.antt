@@ -1,13 +1,13 @@
 -- A number in so many bytes, high byte first, and back: each is the other's inverse, at every width.
 -- The last byte is the remainder by 256, and the bytes before it are those of the quotient.
 -- Assumes nothing.
-use mathlib.Core.Path.{_≡_, refl, sym, ap, _∙_}
-use mathlib.Core.List.{List, [], _∷_, _++_}
-use Prim.Native.Nat.{ℕ, zero, suc, _+_, _*_, _/_, _%_, _^_, _<_, _≤_}
-use native.Mathlib.Omega.{arith}
-use lib.ListN.{length, take, drop, getD, length-append}
-use lib.Seq.{take-suc, getD-drop}
+use Prim.Native.Nat.{_%_, _*_, _+_, _/_, _<_, _^_, _≤_, suc, zero, ℕ}
 use Rattle.working.specs.Entries.{AreBytes, highFirst, onward, valueOf}
+use lib.ListN.{drop, getD, length, length-append, take}
+use lib.Seq.{getD-drop, take-suc}
+use mathlib.Core.List.{List, [], _++_, _∷_}
+use mathlib.Core.Path.{_∙_, _≡_, ap, refl}
+use native.Mathlib.Omega.{arith}
 
 pub onward-append : (n : ℕ) (a b : List ℕ) → onward n (a ++ b) ≡ onward (onward n a) b
 onward-append n [] b = refl

@@ -5,7 +5,7 @@ use Prim.Native.Nat.{_<_, suc, ℕ}
 use Rattle.working.proofs.Line.{nearest-insert, remove-insert, split-end}
 use Rattle.working.proofs.Made.{Well, length-padTo, made-of, shape-of, shape-rest, well-far, well-insert, well-of, well-own}
 use Rattle.working.proofs.Meeting.{turn-left-on, well-turn}
-use Rattle.working.proofs.Plans.{Bounds, Departs, Fate, arrives, departs, fate, refuses}
+use Rattle.working.proofs.Plans.{Departs, Fate, arrives, departs, fate, refuses}
 use Rattle.working.proofs.Ranges.{Ranged, ranged-of}
 use Rattle.working.proofs.Receipts.{arrives-far, arrives-own}
 use Rattle.working.proofs.Tests.{NoneHolds, and, both, each-holds, false-true, none-holds, or-intro}
@@ -18,25 +18,25 @@ use Rattle.working.specs.Refusals.{firstOf}
 use Rattle.working.specs.Sections.{countRefusal, deskOf, emptied, insertAt, lineOf, nearestAt, numberAt, otherAt, padTo, removeAt, unused, withDesk, withLine}
 use Rattle.working.specs.Steps.{accepted, doneBy, entered, metAt, onDecoded, planOf, refused, settled, stepOf, turnAt}
 use Rattle.working.specs.WellMade.{isFrom, isOpener, movementTests, shaped, wellMade}
-use Rattle.working.specs.declared.Act.{Act}
 use Rattle.working.specs.declared.Act.the-variants.{Receives}
+use Rattle.working.specs.declared.Act.{Act}
 use Rattle.working.specs.declared.Answer.the-variants.{Accepted}
 use Rattle.working.specs.declared.Desk.{Desk}
-use Rattle.working.specs.declared.Event.{Event}
 use Rattle.working.specs.declared.Event.the-variants.{At, Begin, Meet, Resume}
+use Rattle.working.specs.declared.Event.{Event}
 use Rattle.working.specs.declared.Movement.{Movement}
-use Rattle.working.specs.declared.Plan.{Plan}
 use Rattle.working.specs.declared.Plan.the-variants.{Arrive, Depart}
+use Rattle.working.specs.declared.Plan.{Plan}
 use Rattle.working.specs.declared.Refusal.{Refusal}
 use Rattle.working.specs.declared.Section.{Section}
-use Rattle.working.specs.declared.Speed.{Speed}
 use Rattle.working.specs.declared.Speed.the-variants.{NoSpeed}
-use Rattle.working.specs.declared.Station.{Station}
+use Rattle.working.specs.declared.Speed.{Speed}
 use Rattle.working.specs.declared.Station.the-variants.{A, B}
+use Rattle.working.specs.declared.Station.{Station}
 use Rattle.working.specs.declared.Stepped.{Stepped}
 use Rattle.working.specs.declared.Vehicle.{Vehicle}
-use Rattle.working.specs.declared.Verdict.{Verdict}
 use Rattle.working.specs.declared.Verdict.the-variants.{Allowed, Refused}
+use Rattle.working.specs.declared.Verdict.{Verdict}
 use borrow.Author.Tests.{not-false}
 use lib.Dec.{eqb}
 use lib.ListN.{getD, length}

@@ -4,6 +4,7 @@
 use Prim.Native.Nat.{_+_, _<_, ℕ}
 use Rattle.working.proofs.Changes.{step-is}
 use Rattle.working.proofs.Demand3.{kept}
+use Rattle.working.proofs.Found.{Found, cut, found, the-end, whole}
 use Rattle.working.proofs.Invariant.{trainOne, trains, weigh-snoc}
 use Rattle.working.proofs.Kept.{kept-at}
 use Rattle.working.proofs.Line.{nearest-insert, split-end}
@@ -16,31 +17,28 @@ use Rattle.working.specs.Events.{Bad, Decoded, Says, decode, decodedAs}
 use Rattle.working.specs.Reasons.{beginTests, findOf, meetTests, openTests, receiveTests, resumeTests, returnTests, trainTests}
 use Rattle.working.specs.Refusals.{firstOf, numberOf, orElse}
 use Rattle.working.specs.Runs.{Done, Run, next}
-use Rattle.working.specs.Sections.{deskOf, fresh, insertAt, lineOf, nearestAt, numberAt, otherAt}
-use Rattle.working.specs.Steps.{doneBy, entered, onDecoded, planOf, settled, stepOf, unlessRefused}
+use Rattle.working.specs.Sections.{deskOf, fresh, lineOf, nearestAt, numberAt, otherAt}
+use Rattle.working.specs.Steps.{doneBy, entered, onDecoded, planOf, settled, unlessRefused}
 use Rattle.working.specs.WellMade.{isFrom}
-use Rattle.working.specs.declared.Act.{Act}
 use Rattle.working.specs.declared.Act.the-variants.{Opens, Passes, Receives, Returns, Runs}
-use Rattle.working.specs.declared.Answer.{Answer}
+use Rattle.working.specs.declared.Act.{Act}
 use Rattle.working.specs.declared.Answer.the-variants as answer
+use Rattle.working.specs.declared.Answer.{Answer}
 use Rattle.working.specs.declared.Desk.{Desk}
-use Rattle.working.specs.declared.Event.{Event}
 use Rattle.working.specs.declared.Event.the-variants.{At, Begin, Meet, Resume}
+use Rattle.working.specs.declared.Event.{Event}
 use Rattle.working.specs.declared.Plan.{Plan}
-use Rattle.working.specs.declared.Plan.the-variants.{Arrive, Depart, Refuse}
 use Rattle.working.specs.declared.Refusal.{Refusal}
-use Rattle.working.specs.declared.Refusal.the-variants.{IllMade}
 use Rattle.working.specs.declared.Section.{Section}
 use Rattle.working.specs.declared.Station.{Station}
 use Rattle.working.specs.declared.Vehicle.{Vehicle}
-use Rattle.working.specs.declared.Verdict.{Verdict}
 use Rattle.working.specs.declared.Verdict.the-variants.{Allowed, Refused}
-use Rattle.working.proofs.Found.{Found, cut, found, the-end, whole}
+use Rattle.working.specs.declared.Verdict.{Verdict}
 use lib.Dec.{eqb}
 use lib.ListN.{length}
 use mathlib.Core.Bool.{Bool, _&&_, false, not, true}
 use mathlib.Core.List.{List, [], _++_, _∷_}
-use mathlib.Core.Path.{_∙_, _≡_, ap, refl, sym}
+use mathlib.Core.Path.{_∙_, _≡_, ap, refl}
 use native.Mathlib.Omega.{arith}
 
 -- ---- no step is refused with 5

@@ -4,12 +4,12 @@
 -- Assumes nothing.
 use Prim.Native.Nat.{_+_, _<_, ℕ}
 use Rattle.working.proofs.Changes.{change}
-use Rattle.working.proofs.Kept.{Good, good-emptied, good-step, kept-at}
+use Rattle.working.proofs.Kept.{Good, good-emptied, good-step}
+use Rattle.working.proofs.Line.{Every, every-at}
 use Rattle.working.proofs.Lists.{StepDid, each-result, join-run, split-run, step-by, step-did}
 use Rattle.working.proofs.Made.{length-line}
 use Rattle.working.proofs.Opposed.{opposed-openers}
 use Rattle.working.proofs.Swap.{Opposite, ab, ba, swapped}
-use Rattle.working.proofs.Line.{Every, every-at}
 use Rattle.working.proofs.Told.{Told, granted-line, told-change, trains-told}
 use Rattle.working.specs.Demand3.{AcceptedAt, Demand3, ReceivesIt, formIn, onTheWayTo, trainsOf, vehicleAt}
 use Rattle.working.specs.Departures.{departureOf, leftSlowly}
@@ -18,12 +18,12 @@ use Rattle.working.specs.Runs.{Done, Run, StepBy, next, stop}
 use Rattle.working.specs.Sections.{deskOf, fresh, lineOf, otherAt}
 use Rattle.working.specs.Steps.{stepOf}
 use Rattle.working.specs.WellMade.{isOpener}
-use Rattle.working.specs.declared.Act.{Act}
 use Rattle.working.specs.declared.Act.the-variants.{Receives}
+use Rattle.working.specs.declared.Act.{Act}
 use Rattle.working.specs.declared.Answer.{Answer}
 use Rattle.working.specs.declared.Section.{Section}
-use Rattle.working.specs.declared.Station.{Station}
 use Rattle.working.specs.declared.Station.the-variants.{A, B}
+use Rattle.working.specs.declared.Station.{Station}
 use lib.ListN.{length}
 use mathlib.Core.Bool.{false, true}
 use mathlib.Core.List.{List, [], _++_, _∷_, append-assoc, append-nil}

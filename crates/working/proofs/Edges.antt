@@ -9,14 +9,14 @@ use Rattle.working.specs.Events.{decode}
 use Rattle.working.specs.Sections.{fresh, freshDesk, padTo}
 use Rattle.working.specs.Steps.{entered, stepOf}
 use Rattle.working.specs.WellMade.{wellMade}
-use Rattle.working.specs.declared.Answer.{Answer}
 use Rattle.working.specs.declared.Answer.the-variants.{Accepted, Refused}
+use Rattle.working.specs.declared.Answer.{Answer}
 use Rattle.working.specs.declared.Interval.the-variants.{Stopped}
 use Rattle.working.specs.declared.Refusal.the-variants.{BeforeClock, EndsInside, FormsUsed, GrantNotAllowed, IntervalRunning, MayNotEnter, NoGuest, NotNearest, OutOfRange, TwelveSent, UnknownKind}
 use Rattle.working.specs.declared.Section.{Section}
 use Rattle.working.specs.declared.Speed.the-variants.{Booked, Kmh, NoSpeed, Walking}
 use mathlib.Core.Bool.{false, true}
-use mathlib.Core.List.{List, [], _++_, _∷_}
+use mathlib.Core.List.{List, [], _∷_}
 use mathlib.Core.Path.{_≡_, refl}
 
 pub record Edge : Type 0 where

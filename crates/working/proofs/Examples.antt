@@ -15,7 +15,6 @@ use Rattle.working.specs.Steps.{entered, stepOf}
 use Rattle.working.specs.WellMade.{wellMade}
 use Rattle.working.specs.declared.Act.the-variants.{Opens}
 use Rattle.working.specs.declared.Answer.the-variants.{Accepted}
-use Rattle.working.specs.declared.Section.{Section}
 use Rattle.working.specs.declared.Speed.the-variants.{Kmh, NoSpeed, Walking}
 use Rattle.working.specs.declared.Station.the-variants.{A, B}
 use Rattle.working.specs.declared.View.the-variants.{Clear, Impaired}

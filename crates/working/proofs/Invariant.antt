@@ -15,8 +15,8 @@ use Rattle.working.specs.Departures.{isTrain, kindIn}
 use Rattle.working.specs.Effects.{ifAny}
 use Rattle.working.specs.WellMade.{isOpener, oneIf}
 use Rattle.working.specs.declared.Desk.{Desk}
-use Rattle.working.specs.declared.Movement.{Movement}
 use Rattle.working.specs.declared.Movement.the-variants.{Open, Return, Through, Train}
+use Rattle.working.specs.declared.Movement.{Movement}
 use borrow.Author.Tests.{eq-eqb, le-ltb, lt-ltb, ltb-false, ltb-true, ne-eqb, not-true}
 use lib.Dec.{eqb, ltb}
 use mathlib.Core.Bool.{Bool, _&&_, _||_, cond, false, not, or-false, or-true, true}

@@ -2,7 +2,7 @@
 -- Each case of a step is one law of the invariant, over the station's own desk and the other's.
 -- Assumes nothing.
 use Prim.Native.Nat.{_≤_, suc, ℕ}
-use Rattle.working.proofs.Changes.{Change, Nearest, Sound, arrival, change, departure, emptying, meeting, nearest-of, refusal, sound-emptied, sound-step, well-arrive, well-at, well-depart}
+use Rattle.working.proofs.Changes.{Change, Sound, arrival, change, departure, emptying, meeting, nearest-of, refusal, sound-emptied, sound-step, well-arrive, well-at, well-depart}
 use Rattle.working.proofs.Invariant.{Half, Halves}
 use Rattle.working.proofs.Line.{number-other, number-same}
 use Rattle.working.proofs.Made.{Well, all-far, line-with, not-other, other-sender, shape-of, shape-rest}
@@ -22,8 +22,8 @@ use Rattle.working.specs.declared.Desk.{Desk}
 use Rattle.working.specs.declared.Movement.{Movement}
 use Rattle.working.specs.declared.Section.{Section}
 use Rattle.working.specs.declared.Speed.{Speed}
-use Rattle.working.specs.declared.Station.{Station}
 use Rattle.working.specs.declared.Station.the-variants.{A, B}
+use Rattle.working.specs.declared.Station.{Station}
 use Rattle.working.specs.declared.Stepped.{Stepped}
 use Rattle.working.specs.declared.Vehicle.{Vehicle}
 use lib.Dec.{eqb}

@@ -6,8 +6,8 @@ use Rattle.working.proofs.Tests.{both, false-true}
 use Rattle.working.specs.Sections.{insertAt, nearestAt, numberAt, otherAt, removeAt, unused}
 use Rattle.working.specs.Steps.{turnAt, turned}
 use Rattle.working.specs.WellMade.{all, differ, isFrom, ordered, same, sumOver}
-use Rattle.working.specs.declared.Station.{Station}
 use Rattle.working.specs.declared.Station.the-variants.{A, B}
+use Rattle.working.specs.declared.Station.{Station}
 use Rattle.working.specs.declared.Vehicle.{Vehicle}
 use borrow.Author.Tests.{eq-eqb, eqb-false, eqb-true, ne-eqb}
 use lib.Dec.{eqb}

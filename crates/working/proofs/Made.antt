@@ -10,17 +10,16 @@ use Rattle.working.specs.Entries.{every}
 use Rattle.working.specs.Sections.{deskOf, insertAt, lineOf, numberAt, otherAt, padTo, unused, withDesk, withLine}
 use Rattle.working.specs.WellMade.{all, countFrom, deskTests, differ, isBlank, isFrom, isOpener, madeTests, movementTests, numbered, oneIf, ordered, same, shaped, vehicleTests, wellMade}
 use Rattle.working.specs.declared.Desk.{Desk}
-use Rattle.working.specs.declared.Movement.{Movement}
 use Rattle.working.specs.declared.Section.{Section}
-use Rattle.working.specs.declared.Station.{Station}
 use Rattle.working.specs.declared.Station.the-variants.{A, B}
+use Rattle.working.specs.declared.Station.{Station}
 use Rattle.working.specs.declared.Vehicle.{Vehicle}
 use borrow.Author.Tests.{eq-eqb, eqb-true, le-leb, leb-true, ne-eqb}
 use lib.Dec.{eqb, leb}
 use lib.ListN.{drop, length, take}
 use lib.Seq.{length-take-le}
-use mathlib.Core.Bool.{Bool, _&&_, _||_, cond, false, not, true}
-use mathlib.Core.List.{List, [], _++_, _∷_}
+use mathlib.Core.Bool.{Bool, _&&_, _||_, false, not, true}
+use mathlib.Core.List.{List, [], _∷_}
 use mathlib.Core.Path.{_∙_, _≡_, ap, refl, sym}
 use native.Mathlib.Omega.{arith}
 

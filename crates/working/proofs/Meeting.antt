@@ -7,8 +7,8 @@ use Rattle.working.specs.Sections.{numberAt, otherAt, unused}
 use Rattle.working.specs.Steps.{turnAt, turned}
 use Rattle.working.specs.WellMade.{all, differ, isFrom, isOpener, numbered, oneIf, ordered, same, shaped, sumOver}
 use Rattle.working.specs.declared.Desk.{Desk}
-use Rattle.working.specs.declared.Station.{Station}
 use Rattle.working.specs.declared.Station.the-variants.{A, B}
+use Rattle.working.specs.declared.Station.{Station}
 use Rattle.working.specs.declared.Vehicle.{Vehicle}
 use lib.Dec.{eqb}
 use lib.ListN.{getD, length, set}

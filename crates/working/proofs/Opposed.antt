@@ -14,8 +14,8 @@ use Rattle.working.specs.Sections.{lineOf, numberAt, otherAt, unused}
 use Rattle.working.specs.WellMade.{all, isFrom, isOpener, shaped}
 use Rattle.working.specs.declared.Movement.{Movement}
 use Rattle.working.specs.declared.Section.{Section}
-use Rattle.working.specs.declared.Station.{Station}
 use Rattle.working.specs.declared.Station.the-variants.{A, B}
+use Rattle.working.specs.declared.Station.{Station}
 use Rattle.working.specs.declared.Vehicle.{Vehicle}
 use borrow.Author.Tests.{eqb-false, ne-eqb, not-true}
 use lib.Dec.{eqb}

@@ -12,21 +12,21 @@ use Rattle.working.specs.Reasons.{departTests, isNamed, mayEnter, openTe
 use Rattle.working.specs.Refusals.{firstOf}
 use Rattle.working.specs.Steps.{planOf, unlessRefused}
 use Rattle.working.specs.WellMade.{isOpener, movementTests, notLater}
-use Rattle.working.specs.declared.Act.{Act}
 use Rattle.working.specs.declared.Act.the-variants.{Opens, Passes, Receives, Returns, Runs}
+use Rattle.working.specs.declared.Act.{Act}
 use Rattle.working.specs.declared.Desk.{Desk}
-use Rattle.working.specs.declared.Movement.{Movement}
 use Rattle.working.specs.declared.Movement.the-variants.{Open, Return, Through, Train}
-use Rattle.working.specs.declared.Plan.{Plan}
+use Rattle.working.specs.declared.Movement.{Movement}
 use Rattle.working.specs.declared.Plan.the-variants.{Arrive, Depart, Refuse}
+use Rattle.working.specs.declared.Plan.{Plan}
 use Rattle.working.specs.declared.Refusal.{Refusal}
 use Rattle.working.specs.declared.Speed.{Speed}
 use Rattle.working.specs.declared.Station.{Station}
 use Rattle.working.specs.declared.Vehicle.{Vehicle}
-use Rattle.working.specs.declared.Verdict.{Verdict}
 use Rattle.working.specs.declared.Verdict.the-variants.{Allowed, Refused}
-use Rattle.working.specs.declared.View.{View}
+use Rattle.working.specs.declared.Verdict.{Verdict}
 use Rattle.working.specs.declared.View.the-variants.{Clear, Impaired, Night}
+use Rattle.working.specs.declared.View.{View}
 use borrow.Author.Tests.{eqb-false, le-leb, leb-false, leb-true, lt-ltb, ltb-false, not-false}
 use lib.Dec.{eqb, leb, ltb}
 use mathlib.Core.Bool.{Bool, _&&_, cond, false, true}

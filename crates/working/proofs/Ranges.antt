@@ -1,22 +1,21 @@
 -- What a taken entry's ranges say of its act: the class and what is asked and granted lie where document 01 has them.
 -- The kind fixes which bits stand, and a field that is there lies in its range.
 -- Assumes nothing.
-use Prim.Native.Nat.{_+_, _≤_, ℕ}
+use Prim.Native.Nat.{_+_, ℕ}
 use Rattle.working.proofs.Found.{Found, cut, found, the-end, whole}
 use Rattle.working.proofs.Tests.{Each, both, each-holds, none-holds}
-use Rattle.working.specs.Entries.{bitFits, entryIn, entryTests, inRange, judge, mapFits, mapIn, lengthOf, mostClass, rangeTests, rangesHold, readAs, readAt, rowOf, stands}
+use Rattle.working.specs.Entries.{bitFits, entryIn, entryTests, inRange, judge, lengthOf, mapFits, mapIn, rangeTests, rangesHold, readAs, rowOf, stands}
 use Rattle.working.specs.Events.{Bad, Decoded, Says, decode, decodedAs, eventOf}
-use Rattle.working.specs.declared.Act.{Act}
 use Rattle.working.specs.declared.Act.the-variants.{Opens, Passes, Receives, Returns, Runs}
+use Rattle.working.specs.declared.Act.{Act}
 use Rattle.working.specs.declared.Entry.{Entry}
-use Rattle.working.specs.declared.Event.{Event}
 use Rattle.working.specs.declared.Event.the-variants.{At, Begin, Meet, Resume}
+use Rattle.working.specs.declared.Event.{Event}
 use Rattle.working.specs.declared.Refusal.{Refusal}
-use Rattle.working.specs.declared.Verdict.{Verdict}
 use Rattle.working.specs.declared.Verdict.the-variants.{Allowed, Refused}
-use borrow.Author.Tests.{eqb-true, le-leb, leb-true, not-false}
+use Rattle.working.specs.declared.Verdict.{Verdict}
+use borrow.Author.Tests.{eqb-true, le-leb, not-false}
 use lib.Dec.{eqb, leb}
-use lib.ListN.{drop}
 use mathlib.Core.Bool.{Bool, _&&_, cond, false, true}
 use mathlib.Core.List.{List, [], _∷_}
 use mathlib.Core.Path.{_∙_, _≡_, ap, refl, subst, sym}

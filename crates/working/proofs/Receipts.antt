@@ -7,8 +7,8 @@ use Rattle.working.proofs.Tests.{Each, false-true}
 use Rattle.working.specs.Effects.{otherDesk, ownDesk}
 use Rattle.working.specs.WellMade.{isOpener, movementTests}
 use Rattle.working.specs.declared.Desk.{Desk}
-use Rattle.working.specs.declared.Movement.{Movement}
 use Rattle.working.specs.declared.Movement.the-variants.{Open, Return, Through, Train}
+use Rattle.working.specs.declared.Movement.{Movement}
 use borrow.Author.Tests.{leb-true}
 use mathlib.Core.Bool.{true}
 use mathlib.Core.List.{List, [], _++_, _∷_}

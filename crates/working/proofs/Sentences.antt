@@ -1,6 +1,5 @@
 -- Sentences of document 01, each as one computed equation.
 -- Assumes nothing.
-use Prim.Native.Nat.{ℕ}
 use Rattle.working.proofs.Edges.{after, begin, begun, guest, holding, meet, opens, plain, receive, resume, returns, train}
 use Rattle.working.proofs.Session.{answersOf}
 use Rattle.working.specs.Demand3.{vehicleAt}
@@ -18,7 +17,7 @@ use Rattle.working.specs.declared.Refusal.the-variants.{BufferTooShort, 
 use Rattle.working.specs.declared.Section.{Section}
 use Rattle.working.specs.declared.Written.the-variants as written
 use mathlib.Core.Bool.{false, true}
-use mathlib.Core.List.{List, [], _∷_}
+use mathlib.Core.List.{[], _∷_}
 use mathlib.Core.Path.{_≡_, refl}
 
 -- a section that is not well made: a vehicle counted in an unused place

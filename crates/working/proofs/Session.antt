@@ -1,20 +1,20 @@
 -- Document 01's session, by computation: each entry's answer, and the section at the end.
 -- Assumes nothing.
-use mathlib.Core.Path.{_≡_, refl}
-use mathlib.Core.List.{List, [], _∷_}
 use Prim.Native.Nat.{ℕ}
-use Rattle.working.specs.declared.Answer.{Answer}
-use Rattle.working.specs.declared.Answer.the-variants.{Refused, Accepted}
-use Rattle.working.specs.declared.Refusal.the-variants.{IntervalRunning}
-use Rattle.working.specs.declared.Section.{Section}
-use Rattle.working.specs.declared.Speed.the-variants.{NoSpeed, Kmh, Booked}
-use Rattle.working.specs.declared.Stepped.{Stepped}
-use Rattle.working.specs.Entries.{lengthOf, bytesOf, entryIn, mapFits, rangesHold, judge, readAt}
+use Rattle.working.specs.Entries.{entryIn, judge, lengthOf, mapFits, rangesHold, readAt}
 use Rattle.working.specs.Events.{decode}
-use Rattle.working.specs.Runs.{runFrom, runOf, endOf}
-use Rattle.working.specs.Sections.{padTo, fresh}
+use Rattle.working.specs.Runs.{endOf, runFrom, runOf}
+use Rattle.working.specs.Sections.{fresh, padTo}
 use Rattle.working.specs.Steps.{entered, stepOf}
 use Rattle.working.specs.WellMade.{wellMade}
+use Rattle.working.specs.declared.Answer.the-variants.{Accepted, Refused}
+use Rattle.working.specs.declared.Answer.{Answer}
+use Rattle.working.specs.declared.Refusal.the-variants.{IntervalRunning}
+use Rattle.working.specs.declared.Section.{Section}
+use Rattle.working.specs.declared.Speed.the-variants.{Booked, Kmh, NoSpeed}
+use Rattle.working.specs.declared.Stepped.{Stepped}
+use mathlib.Core.List.{List, [], _∷_}
+use mathlib.Core.Path.{_≡_, refl}
 
 abbrev pub answersOf : List Stepped → List Answer
 answersOf [] = []

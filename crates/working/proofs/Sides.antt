@@ -10,12 +10,12 @@ use Rattle.working.specs.Sections.{insertAt, numberAt, otherAt, unused}
 use Rattle.working.specs.Steps.{turnAt}
 use Rattle.working.specs.WellMade.{all, isFrom, sumOver}
 use Rattle.working.specs.declared.Movement.{Movement}
-use Rattle.working.specs.declared.Station.{Station}
 use Rattle.working.specs.declared.Station.the-variants.{A, B}
+use Rattle.working.specs.declared.Station.{Station}
 use Rattle.working.specs.declared.Vehicle.{Vehicle}
-use lib.ListN.{List·getD-append, getD, length, length-append, length-reverse}
-use lib.Seq.{getD-at}
 use borrow.Author.Tests.{eqb-true}
+use lib.ListN.{List·getD-append, getD, length, length-reverse}
+use lib.Seq.{getD-at}
 use mathlib.Core.Bool.{Bool, _&&_, cond, false, true}
 use mathlib.Core.List.{List, [], _++_, _∷_, append-nil, reverse, reverse-append, reverse-cons}
 use mathlib.Core.Path.{_∙_, _≡_, ap, refl, sym}

@@ -17,24 +17,24 @@ use Rattle.working.specs.Refusals.{firstOf}
 use Rattle.working.specs.Sections.{deskOf, insertAt, lineOf, nearestAt, numberAt, removeAt, withDesk, withLine}
 use Rattle.working.specs.Steps.{doneBy, entered, onDecoded, planOf, stepOf, unlessRefused}
 use Rattle.working.specs.WellMade.{oneIf}
-use Rattle.working.specs.declared.Act.{Act}
 use Rattle.working.specs.declared.Act.the-variants.{Opens, Passes, Receives, Returns, Runs}
-use Rattle.working.specs.declared.Answer.{Answer}
+use Rattle.working.specs.declared.Act.{Act}
 use Rattle.working.specs.declared.Answer.the-variants as answer
+use Rattle.working.specs.declared.Answer.{Answer}
 use Rattle.working.specs.declared.Desk.{Desk}
 use Rattle.working.specs.declared.Event.the-variants.{At}
 use Rattle.working.specs.declared.Movement.{Movement}
-use Rattle.working.specs.declared.Plan.{Plan}
 use Rattle.working.specs.declared.Plan.the-variants.{Arrive, Depart, Refuse}
+use Rattle.working.specs.declared.Plan.{Plan}
 use Rattle.working.specs.declared.Section.{Section}
-use Rattle.working.specs.declared.Speed.{Speed}
 use Rattle.working.specs.declared.Speed.the-variants.{NoSpeed}
-use Rattle.working.specs.declared.Station.{Station}
+use Rattle.working.specs.declared.Speed.{Speed}
 use Rattle.working.specs.declared.Station.the-variants.{A, B}
+use Rattle.working.specs.declared.Station.{Station}
 use Rattle.working.specs.declared.Stepped.{Stepped}
 use Rattle.working.specs.declared.Vehicle.{Vehicle}
-use Rattle.working.specs.declared.Verdict.{Verdict}
 use Rattle.working.specs.declared.Verdict.the-variants.{Allowed, Refused}
+use Rattle.working.specs.declared.Verdict.{Verdict}
 use borrow.Author.Tests.{eqb-true, not-false}
 use lib.Dec.{eqb}
 use lib.ListN.{length}

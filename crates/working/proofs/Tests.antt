@@ -3,8 +3,8 @@
 use Rattle.working.specs.Entries.{every}
 use Rattle.working.specs.Refusals.{firstOf, orElse}
 use Rattle.working.specs.declared.Refusal.{Refusal}
-use Rattle.working.specs.declared.Verdict.{Verdict}
 use Rattle.working.specs.declared.Verdict.the-variants.{Allowed}
+use Rattle.working.specs.declared.Verdict.{Verdict}
 use mathlib.Core.Bool.{Bool, _&&_, _||_, false, true, true≢false}
 use mathlib.Core.List.{List, [], _∷_}
 use mathlib.Core.Path.{_∙_, _≡_, refl, sym}

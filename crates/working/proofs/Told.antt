@@ -1,22 +1,21 @@
 -- Each vehicle present has its departure in the list of steps, of the kind that its record says; an OPEN or THROUGH left on T/B 602 at 15 km/h or less.
 -- A step that is no accepted departure adds none; one that is takes a form number that no vehicle present has.
 -- Assumes nothing.
-use Prim.Native.Nat.{_+_, _<_, _≤_, suc, zero, ℕ}
-use Rattle.working.proofs.Changes.{Change, Nearest, Sound, arrival, departure, emptying, meeting, nearest-of, refusal, well-arrive, well-at, well-depart}
+use Prim.Native.Nat.{_+_, _≤_, suc, ℕ}
+use Rattle.working.proofs.Changes.{Change, Sound, arrival, departure, emptying, meeting, nearest-of, refusal, well-arrive, well-at, well-depart}
 use Rattle.working.proofs.Invariant.{granted, trainOne, trains}
 use Rattle.working.proofs.Line.{Every, every-insert, every-map, every-rest, every-turn, number-same}
 use Rattle.working.proofs.Made.{line-after, line-with}
 use Rattle.working.proofs.Meeting.{turn-length}
 use Rattle.working.proofs.Plans.{Departs}
-use Rattle.working.proofs.Sides.{movesOf, moves-weight}
+use Rattle.working.proofs.Sides.{moves-weight, movesOf}
 use Rattle.working.proofs.Tests.{both}
 use Rattle.working.specs.Demand3.{grantedIn, ofStation}
-use Rattle.working.specs.Departures.{Departure, Kind, departureBy, departureOf, departureWith, ifOf, isTrain, kindIn, kindOf, laterOr, leftOnTrain, leftSlowly}
+use Rattle.working.specs.Departures.{Departure, Kind, departureBy, departureOf, departureWith, ifOf, kindIn, kindOf, laterOr, leftOnTrain, leftSlowly}
 use Rattle.working.specs.Effects.{vehicleFor}
 use Rattle.working.specs.Events.{Bad, Decoded, Says, decode}
-use Rattle.working.specs.Reasons.{mayEnter}
 use Rattle.working.specs.Runs.{Done}
-use Rattle.working.specs.Sections.{deskOf, insertAt, lineOf, numberAt, unused}
+use Rattle.working.specs.Sections.{deskOf, insertAt, lineOf, numberAt}
 use Rattle.working.specs.Steps.{metAt, turnAt, turned}
 use Rattle.working.specs.WellMade.{all, isFrom, isOpener, numbered, oneIf, sumOver}
 use Rattle.working.specs.declared.Act.{Act}
@@ -27,13 +26,13 @@ use Rattle.working.specs.declared.Movement.{Movement}
 use Rattle.working.specs.declared.Refusal.{Refusal}
 use Rattle.working.specs.declared.Section.{Section}
 use Rattle.working.specs.declared.Speed.{Speed}
+use Rattle.working.specs.declared.Station.the-variants.{A}
 use Rattle.working.specs.declared.Station.{Station}
-use Rattle.working.specs.declared.Station.the-variants.{A, B}
 use Rattle.working.specs.declared.Stepped.{Stepped}
 use Rattle.working.specs.declared.Vehicle.{Vehicle}
 use borrow.Author.Tests.{eq-eqb, eqb-true, leb-true, ne-eqb}
 use lib.Dec.{eqb, leb}
-use lib.ListN.{getD, length}
+use lib.ListN.{length}
 use mathlib.Core.Bool.{Bool, _&&_, cond, false, true}
 use mathlib.Core.List.{List, [], _++_, _∷_}
 use mathlib.Core.Option.{Option, none, some}

@@ -1,26 +1,26 @@
 -- Demand 3, one statement about every list of steps from a fresh section. In plain words, clause by clause, beside document 01: docs/THEOREM.md.
-use Prim.Native.Nat.{ℕ, _+_, _<_}
-use mathlib.Core.Path.{_≡_}
-use mathlib.Core.Bool.{Bool, true, false, cond}
-use mathlib.Core.List.{List, [], _∷_, _++_}
-use mathlib.Core.Option.{Option, none, some}
-use lib.ListN.{getD}
-use Rattle.working.specs.declared.Act.{Act}
-use Rattle.working.specs.declared.Act.the-variants.{Receives}
-use Rattle.working.specs.declared.Answer.{Answer}
-use Rattle.working.specs.declared.Answer.the-variants.{Refused, Accepted}
-use Rattle.working.specs.declared.Event.the-variants.{At}
-use Rattle.working.specs.declared.Movement.{Movement}
-use Rattle.working.specs.declared.Movement.the-variants.{Open, Through, Return, Train}
-use Rattle.working.specs.declared.Section.{Section}
-use Rattle.working.specs.declared.Station.{Station}
-use Rattle.working.specs.declared.Station.the-variants.{A, B}
-use Rattle.working.specs.declared.Vehicle.{Vehicle}
-use Rattle.working.specs.Departures.{Departure, Kind, kindIn, kindOf, departureOf, leftSlowly, leftOnTrain}
-use Rattle.working.specs.Events.{decode, Says}
+use Prim.Native.Nat.{_+_, _<_, ℕ}
+use Rattle.working.specs.Departures.{Departure, Kind, departureOf, kindIn, kindOf, leftOnTrain, leftSlowly}
+use Rattle.working.specs.Events.{Says, decode}
 use Rattle.working.specs.Runs.{Done, Run, results, resultsOf}
-use Rattle.working.specs.Sections.{numberAt, otherAt, unused, lineOf, deskOf, fresh}
+use Rattle.working.specs.Sections.{deskOf, fresh, lineOf, numberAt, otherAt, unused}
 use Rattle.working.specs.WellMade.{isFrom, oneIf, sumOver}
+use Rattle.working.specs.declared.Act.the-variants.{Receives}
+use Rattle.working.specs.declared.Act.{Act}
+use Rattle.working.specs.declared.Answer.the-variants.{Accepted, Refused}
+use Rattle.working.specs.declared.Answer.{Answer}
+use Rattle.working.specs.declared.Event.the-variants.{At}
+use Rattle.working.specs.declared.Movement.the-variants.{Open, Return, Through, Train}
+use Rattle.working.specs.declared.Movement.{Movement}
+use Rattle.working.specs.declared.Section.{Section}
+use Rattle.working.specs.declared.Station.the-variants.{A, B}
+use Rattle.working.specs.declared.Station.{Station}
+use Rattle.working.specs.declared.Vehicle.{Vehicle}
+use lib.ListN.{getD}
+use mathlib.Core.Bool.{Bool, cond, false, true}
+use mathlib.Core.List.{List, _++_, _∷_}
+use mathlib.Core.Option.{Option, none, some}
+use mathlib.Core.Path.{_≡_}
 
 -- the vehicle at a place, counted from A
 abbrev pub vehicleAt : Section → ℕ → Vehicle

@@ -1,23 +1,23 @@
 -- Document 01: a vehicle's departure, as the list of steps tells it, and what it left on.
-use Prim.Native.Nat.{ℕ, _%_}
-use mathlib.Core.Bool.{Bool, true, false, cond, _&&_}
-use mathlib.Core.List.{List, [], _∷_}
-use mathlib.Core.Option.{Option, none, some}
-use lib.Dec.{eqb}
+use Prim.Native.Nat.{_%_, ℕ}
+use Rattle.working.specs.Effects.{isSlow}
+use Rattle.working.specs.Events.{Bad, Decoded, Says, decode}
+use Rattle.working.specs.Runs.{Done}
+use Rattle.working.specs.Sections.{numberAt}
+use Rattle.working.specs.declared.Act.the-variants.{Opens, Passes, Receives, Returns, Runs}
 use Rattle.working.specs.declared.Act.{Act}
-use Rattle.working.specs.declared.Act.the-variants.{Opens, Passes, Returns, Runs, Receives}
+use Rattle.working.specs.declared.Answer.the-variants.{Accepted, Refused}
 use Rattle.working.specs.declared.Answer.{Answer}
-use Rattle.working.specs.declared.Answer.the-variants.{Refused, Accepted}
-use Rattle.working.specs.declared.Event.the-variants.{Begin, At, Meet, Resume}
+use Rattle.working.specs.declared.Event.the-variants.{At, Begin, Meet, Resume}
+use Rattle.working.specs.declared.Movement.the-variants.{Open, Return, Through, Train}
 use Rattle.working.specs.declared.Movement.{Movement}
-use Rattle.working.specs.declared.Movement.the-variants.{Open, Through, Return, Train}
 use Rattle.working.specs.declared.Speed.{Speed}
 use Rattle.working.specs.declared.Station.{Station}
 use Rattle.working.specs.declared.Vehicle.{Vehicle}
-use Rattle.working.specs.Effects.{isSlow}
-use Rattle.working.specs.Events.{Decoded, Says, Bad, decode}
-use Rattle.working.specs.Runs.{Done}
-use Rattle.working.specs.Sections.{numberAt}
+use lib.Dec.{eqb}
+use mathlib.Core.Bool.{Bool, _&&_, cond, false, true}
+use mathlib.Core.List.{List, [], _∷_}
+use mathlib.Core.Option.{Option, none, some}
 
 -- the kinds of a departure, and the kind that a vehicle's record has
 pub data Kind : Type 0 where

@@ -1,20 +1,20 @@
 -- Document 01, "Each entry's effect": speeds, forms, and the desk after a departure and after a receipt. S is the entry's station, O the other.
-use Prim.Native.Nat.{ℕ, _+_, _-_}
-use mathlib.Core.Bool.{Bool, true, false, cond, _||_}
-use lib.Dec.{eqb, ltb}
-use Rattle.working.specs.declared.Desk.{Desk}
-use Rattle.working.specs.declared.Interval.{Interval}
-use Rattle.working.specs.declared.Interval.the-variants.{Stopped, Since}
-use Rattle.working.specs.declared.Movement.{Movement}
-use Rattle.working.specs.declared.Movement.the-variants.{Open, Through, Return, Train}
-use Rattle.working.specs.declared.Speed.{Speed}
-use Rattle.working.specs.declared.Speed.the-variants.{NoSpeed, Walking, Kmh, Booked}
-use Rattle.working.specs.declared.Station.{Station}
-use Rattle.working.specs.declared.Station.the-variants.{A, B}
-use Rattle.working.specs.declared.Vehicle.{Vehicle}
-use Rattle.working.specs.declared.View.{View}
-use Rattle.working.specs.declared.View.the-variants.{Clear, Night, Impaired}
+use Prim.Native.Nat.{_+_, _-_, ℕ}
 use Rattle.working.specs.Sections.{numberAt, otherAt}
+use Rattle.working.specs.declared.Desk.{Desk}
+use Rattle.working.specs.declared.Interval.the-variants.{Since, Stopped}
+use Rattle.working.specs.declared.Interval.{Interval}
+use Rattle.working.specs.declared.Movement.the-variants.{Open, Return, Through, Train}
+use Rattle.working.specs.declared.Movement.{Movement}
+use Rattle.working.specs.declared.Speed.the-variants.{Booked, Kmh, NoSpeed, Walking}
+use Rattle.working.specs.declared.Speed.{Speed}
+use Rattle.working.specs.declared.Station.the-variants.{A, B}
+use Rattle.working.specs.declared.Station.{Station}
+use Rattle.working.specs.declared.Vehicle.{Vehicle}
+use Rattle.working.specs.declared.View.the-variants.{Clear, Impaired, Night}
+use Rattle.working.specs.declared.View.{View}
+use lib.Dec.{eqb, ltb}
+use mathlib.Core.Bool.{Bool, _||_, cond, false, true}
 
 -- ---- speeds
 

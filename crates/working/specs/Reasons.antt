@@ -1,19 +1,19 @@
 -- Document 01, "Reasons by who causes them": what each kind is refused for, in rising order. Refusals 1 to 4 stand in Entries.
-use Prim.Native.Nat.{ℕ, zero, suc, _+_}
-use mathlib.Core.Bool.{Bool, false, not, cond, _&&_, _||_}
-use mathlib.Core.List.{List, [], _∷_}
-use lib.Dec.{eqb, leb, ltb}
-use lib.ListN.{length, getD}
-use Rattle.working.specs.declared.Desk.{Desk}
-use Rattle.working.specs.declared.Interval.{Interval}
-use Rattle.working.specs.declared.Interval.the-variants.{Stopped, Since}
-use Rattle.working.specs.declared.Refusal.{Refusal}
-use Rattle.working.specs.declared.Refusal.the-variants.{AlreadyInForce, NotInForce, VehiclePresent, BeforeClock, OpenerAway, HoldsLineClear, OwesLineClear, GuestHere, NoGuest, NoLineClear, GrantNotAllowed, TwelveSent, FormsUsed, IntervalRunning, NotNearest, MayNotEnter, MayNotMeet}
-use Rattle.working.specs.declared.Station.{Station}
-use Rattle.working.specs.declared.Vehicle.{Vehicle}
+use Prim.Native.Nat.{_+_, suc, ℕ}
 use Rattle.working.specs.Entries.{every}
 use Rattle.working.specs.Sections.{numberAt, unused}
 use Rattle.working.specs.WellMade.{isOpener}
+use Rattle.working.specs.declared.Desk.{Desk}
+use Rattle.working.specs.declared.Interval.the-variants.{Since, Stopped}
+use Rattle.working.specs.declared.Interval.{Interval}
+use Rattle.working.specs.declared.Refusal.the-variants.{AlreadyInForce, BeforeClock, FormsUsed, GrantNotAllowed, GuestHere, HoldsLineClear, IntervalRunning, MayNotEnter, MayNotMeet, NoGuest, NoLineClear, NotInForce, NotNearest, OpenerAway, OwesLineClear, TwelveSent, VehiclePresent}
+use Rattle.working.specs.declared.Refusal.{Refusal}
+use Rattle.working.specs.declared.Station.{Station}
+use Rattle.working.specs.declared.Vehicle.{Vehicle}
+use lib.Dec.{eqb, leb, ltb}
+use lib.ListN.{getD, length}
+use mathlib.Core.Bool.{Bool, _&&_, _||_, cond, false, not}
+use mathlib.Core.List.{List, [], _∷_}
 
 -- ---- whoever declares
 

@@ -1,11 +1,11 @@
 -- Document 01, "Reasons by who causes them": the numbers, and a list of tests that is scanned for the first that holds.
 use Prim.Native.Nat.{ℕ}
-use mathlib.Core.Bool.{Bool, true, false}
-use mathlib.Core.List.{List, [], _∷_}
+use Rattle.working.specs.declared.Refusal.the-variants.{AlreadyInForce, BeforeClock, BufferTooShort, EndsInside, FormsUsed, GrantNotAllowed, GuestHere, HoldsLineClear, IllMade, IntervalRunning, MayNotEnter, MayNotMeet, NoGuest, NoLineClear, NotInForce, NotNearest, OpenerAway, OutOfRange, OwesLineClear, TwelveSent, UnknownKind, VehiclePresent, WrongMap}
 use Rattle.working.specs.declared.Refusal.{Refusal}
-use Rattle.working.specs.declared.Refusal.the-variants.{EndsInside, UnknownKind, WrongMap, OutOfRange, IllMade, AlreadyInForce, NotInForce, VehiclePresent, BeforeClock, OpenerAway, HoldsLineClear, OwesLineClear, GuestHere, NoGuest, NoLineClear, GrantNotAllowed, TwelveSent, FormsUsed, IntervalRunning, NotNearest, MayNotEnter, MayNotMeet, BufferTooShort}
-use Rattle.working.specs.declared.Verdict.{Verdict}
 use Rattle.working.specs.declared.Verdict.the-variants.{Allowed, Refused}
+use Rattle.working.specs.declared.Verdict.{Verdict}
+use mathlib.Core.Bool.{Bool, false, true}
+use mathlib.Core.List.{List, [], _∷_}
 
 -- document 01's number of each refusal
 abbrev pub numberOf : Refusal → ℕ

@@ -1,16 +1,16 @@
 -- Document 01, "The section": the two stations, the vehicles in order from A to B, the desks, and the fresh section.
-use Prim.Native.Nat.{ℕ, zero, suc, _+_, _-_}
-use mathlib.Core.Bool.{Bool, true, false, cond}
-use mathlib.Core.List.{List, [], _∷_, _++_}
-use lib.Dec.{ltb}
-use lib.ListN.{length, take, drop, getD}
+use Prim.Native.Nat.{_+_, _-_, suc, zero, ℕ}
 use Rattle.working.specs.declared.Desk.{Desk}
 use Rattle.working.specs.declared.Interval.the-variants.{Stopped}
 use Rattle.working.specs.declared.Movement.the-variants.{Open}
 use Rattle.working.specs.declared.Section.{Section}
-use Rattle.working.specs.declared.Station.{Station}
 use Rattle.working.specs.declared.Station.the-variants.{A, B}
+use Rattle.working.specs.declared.Station.{Station}
 use Rattle.working.specs.declared.Vehicle.{Vehicle}
+use lib.Dec.{ltb}
+use lib.ListN.{drop, getD, length, take}
+use mathlib.Core.Bool.{Bool, cond, false}
+use mathlib.Core.List.{List, [], _++_, _∷_}
 
 -- "Station 1 is A, 2 is B"
 abbrev pub numberAt : Station → ℕ

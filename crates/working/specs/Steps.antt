@@ -1,32 +1,32 @@
 -- The step on a section and bytes: a station decides by its own desk and the vehicle nearest it, and acts on that desk and at its own end of the line.
-use Prim.Native.Nat.{ℕ, zero, suc}
-use mathlib.Core.Bool.{Bool, true, false}
-use mathlib.Core.List.{List, [], _∷_}
-use lib.Dec.{eqb}
+use Prim.Native.Nat.{suc, zero, ℕ}
+use Rattle.working.specs.Effects.{arriveDesk, clearForms, openDesk, openForms, openSpeed, returnDesk, throughDesk, throughForms, trainDesk, trainSpeed, vehicleFor}
+use Rattle.working.specs.Events.{Bad, Decoded, Says, decode}
+use Rattle.working.specs.Reasons.{beginTests, findOf, meetTests, openTests, receiveTests, resumeTests, returnTests, trainTests}
+use Rattle.working.specs.Refusals.{firstOf}
+use Rattle.working.specs.Sections.{countRefusal, deskOf, emptied, insertAt, lineOf, nearestAt, numberAt, removeAt, withDesk, withLine}
+use Rattle.working.specs.WellMade.{wellMade}
+use Rattle.working.specs.declared.Act.the-variants.{Opens, Passes, Receives, Returns, Runs}
 use Rattle.working.specs.declared.Act.{Act}
-use Rattle.working.specs.declared.Act.the-variants.{Opens, Passes, Returns, Runs, Receives}
 use Rattle.working.specs.declared.Answer.the-variants as answer
 use Rattle.working.specs.declared.Desk.{Desk}
+use Rattle.working.specs.declared.Event.the-variants.{At, Begin, Meet, Resume}
 use Rattle.working.specs.declared.Event.{Event}
-use Rattle.working.specs.declared.Event.the-variants.{Begin, At, Meet, Resume}
-use Rattle.working.specs.declared.Movement.the-variants.{Open, Through, Return, Train}
+use Rattle.working.specs.declared.Movement.the-variants.{Open, Return, Through, Train}
+use Rattle.working.specs.declared.Plan.the-variants.{Arrive, Depart, Refuse}
 use Rattle.working.specs.declared.Plan.{Plan}
-use Rattle.working.specs.declared.Plan.the-variants.{Refuse, Depart, Arrive}
-use Rattle.working.specs.declared.Refusal.{Refusal}
 use Rattle.working.specs.declared.Refusal.the-variants.{IllMade}
+use Rattle.working.specs.declared.Refusal.{Refusal}
 use Rattle.working.specs.declared.Section.{Section}
-use Rattle.working.specs.declared.Speed.the-variants.{NoSpeed, Booked}
+use Rattle.working.specs.declared.Speed.the-variants.{Booked, NoSpeed}
 use Rattle.working.specs.declared.Station.{Station}
 use Rattle.working.specs.declared.Stepped.{Stepped}
 use Rattle.working.specs.declared.Vehicle.{Vehicle}
-use Rattle.working.specs.declared.Verdict.{Verdict}
 use Rattle.working.specs.declared.Verdict.the-variants.{Allowed, Refused}
-use Rattle.working.specs.Effects.{openSpeed, trainSpeed, openForms, throughForms, clearForms, vehicleFor, openDesk, throughDesk, returnDesk, trainDesk, arriveDesk}
-use Rattle.working.specs.Events.{Decoded, Says, Bad, decode}
-use Rattle.working.specs.Reasons.{beginTests, resumeTests, openTests, returnTests, trainTests, receiveTests, findOf, meetTests}
-use Rattle.working.specs.Refusals.{firstOf}
-use Rattle.working.specs.Sections.{numberAt, lineOf, withLine, insertAt, removeAt, nearestAt, deskOf, withDesk, countRefusal, emptied}
-use Rattle.working.specs.WellMade.{wellMade}
+use Rattle.working.specs.declared.Verdict.{Verdict}
+use lib.Dec.{eqb}
+use mathlib.Core.Bool.{Bool, false, true}
+use mathlib.Core.List.{List, [], _∷_}
 
 -- ---- a station decides
 

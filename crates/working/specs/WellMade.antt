@@ -1,20 +1,20 @@
 -- Document 01, "The section": when a section is well made, clause by clause.
-use Prim.Native.Nat.{ℕ, _+_}
-use mathlib.Core.Bool.{Bool, true, false, not, cond, _&&_, _||_}
-use mathlib.Core.List.{List, [], _∷_}
+use Prim.Native.Nat.{_+_, ℕ}
+use Rattle.working.specs.Entries.{every}
+use Rattle.working.specs.Sections.{deskOf, lineOf, numberAt}
+use Rattle.working.specs.declared.Desk.{Desk}
+use Rattle.working.specs.declared.Interval.the-variants.{Since, Stopped}
+use Rattle.working.specs.declared.Interval.{Interval}
+use Rattle.working.specs.declared.Movement.the-variants.{Open, Return, Through, Train}
+use Rattle.working.specs.declared.Movement.{Movement}
+use Rattle.working.specs.declared.Section.{Section}
+use Rattle.working.specs.declared.Station.the-variants.{A, B}
+use Rattle.working.specs.declared.Station.{Station}
+use Rattle.working.specs.declared.Vehicle.{Vehicle}
 use lib.Dec.{eqb, leb}
 use lib.ListN.{drop}
-use Rattle.working.specs.declared.Desk.{Desk}
-use Rattle.working.specs.declared.Interval.{Interval}
-use Rattle.working.specs.declared.Interval.the-variants.{Stopped, Since}
-use Rattle.working.specs.declared.Movement.{Movement}
-use Rattle.working.specs.declared.Movement.the-variants.{Open, Through, Return, Train}
-use Rattle.working.specs.declared.Section.{Section}
-use Rattle.working.specs.declared.Station.{Station}
-use Rattle.working.specs.declared.Station.the-variants.{A, B}
-use Rattle.working.specs.declared.Vehicle.{Vehicle}
-use Rattle.working.specs.Entries.{every}
-use Rattle.working.specs.Sections.{numberAt, lineOf, deskOf}
+use mathlib.Core.Bool.{Bool, _&&_, _||_, cond, false, not, true}
+use mathlib.Core.List.{List, [], _∷_}
 
 -- ---- the vehicles
 

@@ -11,7 +11,8 @@ use Rattle.working.specs.declared.Station.{Station}
 use Rattle.working.specs.declared.Vehicle.{Vehicle}
 use borrow.Author.Tests.{eq-eqb, eqb-false, eqb-true, ne-eqb}
 use lib.Dec.{eqb}
-use lib.ListN.{getD, length, length-append, take}
+use lib.ListN.{getD, length, length-append}
+use lib.Seq.{getD-append-seam, take-append-seam}
 use mathlib.Core.Bool.{Bool, _&&_, cond, false, not, true}
 use mathlib.Core.List.{List, [], _++_, _∷_}
 use mathlib.Core.Path.{_∙_, _≡_, ap, ap₂, refl, sym}
@@ -41,33 +42,17 @@ pub insert-length : (x : Station) (v : Vehicle) (l : List Vehicle) → length (i
 insert-length A v l = refl
 insert-length B v l = omega (arith, length-append l (v ∷ []))
 
-last-of : (l : List Vehicle) (v : Vehicle) → getD (l ++ v ∷ []) (length (l ++ v ∷ []) - 1) unused ≡ v
-last-of l v = rw (at l v) (end l v)
-  where
-    at : (l : List Vehicle) (v : Vehicle) → length (l ++ v ∷ []) - 1 ≡ length l
-    at l v = omega (arith, length-append l (v ∷ []))
-
-    end : (l : List Vehicle) (v : Vehicle) → getD (l ++ v ∷ []) (length l) unused ≡ v
-    end [] v = refl
-    end (u ∷ l) v = end l v
-
-init-of : (l : List Vehicle) (v : Vehicle) → take (length (l ++ v ∷ []) - 1) (l ++ v ∷ []) ≡ l
-init-of l v = rw (at l v) (end l v)
-  where
-    at : (l : List Vehicle) (v : Vehicle) → length (l ++ v ∷ []) - 1 ≡ length l
-    at l v = omega (arith, length-append l (v ∷ []))
-
-    end : (l : List Vehicle) (v : Vehicle) → take (length l) (l ++ v ∷ []) ≡ l
-    end [] v = refl
-    end (u ∷ l) v = ap (λ (t : List Vehicle). u ∷ t) (end l v)
+-- the last place of a line with one more at its end
+last-place : (l : List Vehicle) (v : Vehicle) → length (l ++ v ∷ []) - 1 ≡ length l
+last-place l v = omega (arith, length-append l (v ∷ []))
 
 pub nearest-insert : (x : Station) (v : Vehicle) (l : List Vehicle) → nearestAt x (insertAt x v l) ≡ v
 nearest-insert A v l = refl
-nearest-insert B v l = last-of l v
+nearest-insert B v l = rw (last-place l v) (getD-append-seam l v [] unused)
 
 pub remove-insert : (x : Station) (v : Vehicle) (l : List Vehicle) → removeAt x (insertAt x v l) ≡ l
 remove-insert A v l = refl
-remove-insert B v l = init-of l v
+remove-insert B v l = rw (last-place l v) (take-append-seam l (v ∷ []))
 
 -- a line with a vehicle is an insertion at either end
 split-last : (v : Vehicle) (l : List Vehicle) → (w : Vehicle) × (t : List Vehicle) × (v ∷ l ≡ t ++ w ∷ [])

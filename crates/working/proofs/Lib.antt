@@ -22,6 +22,7 @@ pub mod ReadingEnds
 pub mod Receipts
 pub mod Sentences
 pub mod Session
+pub mod ShortLogs
 pub mod Sides
 pub mod Swap
 pub mod Tests

@@ -10,6 +10,7 @@ use lib.Dec.{eqb}
 use mathlib.Core.Bool.{Bool, _&&_, _||_, and-assoc, and-true, true}
 use mathlib.Core.Path.{_∙_, _≡_}
 
+-- the code's grouping is the definition's
 joined : (blank shaped ordered differ a b force empty freshA freshB : Bool)
     → (blank && shaped && ordered && differ && (a && b) && (force || empty && freshA && freshB))
     ≡ (blank && (shaped && (ordered && (differ && (a && (b && ((force || empty && (freshA && (freshB && true))) && true)))))))

@@ -11,7 +11,6 @@ pub use desks::count_refusal;
 pub use desks::desk;
 pub use desks::emptied;
 pub use desks::with_desk;
-pub use line::blanked;
 pub use line::nearest;
 pub use line::with_inserted;
 pub use line::with_met;

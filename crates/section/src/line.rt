@@ -15,7 +15,7 @@ use working::Station;
 use working::Vehicle;
 
 // The places with every one from `from` on unused.
-pub fn blanked(places: [Vehicle; 24], from: usize) -> [Vehicle; 24]
+pub(crate) fn blanked(places: [Vehicle; 24], from: usize) -> [Vehicle; 24]
     ensures { λ r. ⌜ r ≡ padTo 24 (take from places) ⌝ }
 {
     let none = Vehicle::unused();

@@ -1,0 +1,3 @@
+pub mod Decimal
+pub mod Filling
+pub mod Putting

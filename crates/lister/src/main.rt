@@ -1,0 +1,22 @@
+// Lists a log from standard input on standard output.
+use libc::STDIN_FILENO;
+use libc::STDOUT_FILENO;
+
+fn main() {
+    // A byte more than the longest log tells a longer one.
+    let mut input = [0u8; 65537];
+    let len = io::read_full(STDIN_FILENO, &mut input);
+    let log = &input[..len];
+    let mut block = [0u8; 16384];
+    let mut listing = listing::begin(log);
+    // A log has no more entries than bytes, and one last line, so that many blocks are enough even at a line each.
+    for _ in 0..65537 {
+        if listing.ended {
+            return;
+        }
+        let filled = listing::fill(listing, log, &mut block);
+        let count = filled.count;
+        io::write_all(STDOUT_FILENO, &block[..count]);
+        listing = filled.listing;
+    }
+}

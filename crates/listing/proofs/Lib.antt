@@ -1,0 +1,4 @@
+pub mod Decimal
+pub mod Filling
+pub mod Putting
+pub mod Whole

@@ -1,0 +1,5 @@
+pub mod Blocks
+pub mod Lines
+pub mod Listings
+pub mod Text
+pub mod Turns

@@ -1,0 +1,10 @@
+// The text of a listing: a line for each entry of a log, and a last line with the figures, put into lent blocks of any size.
+mod blocks;
+mod lines;
+mod text;
+mod turns;
+
+pub use blocks::Filled;
+pub use blocks::fill;
+pub use turns::Listing;
+pub use turns::begin;

@@ -1,0 +1,130 @@
+// The lines of a listing.
+ghost use Prim.Native.Nat.{_+_, _≤_};
+ghost use Rattle.listing.specs.Lines.{answerText, deskText, endLine, kindOf, letterAt, lineOf, longLine, speedText, stationOf};
+ghost use Rattle.listing.specs.Text.{Puts};
+ghost use lib.ListN.{length};
+ghost use mathlib.Core.Path.{_≡_};
+use crate::text::put;
+use crate::text::put_field;
+use crate::text::put_number;
+use crate::text::put_three;
+use crate::text::put_two;
+use working::Answer;
+use working::Desk;
+use working::Read;
+use working::Section;
+use working::Speed;
+
+// The kind of an entry that is taken; refusals 1 to 4 print 0.
+pub(crate) fn kind_of(read: Read) -> u8
+    ensures { λ r. ⌜ r ≡ kindOf read ⌝ }
+{
+    match read {
+        Read::End => 0,
+        Read::Whole(e, _) => e.kind,
+        Read::Refused(_, _) => 0,
+    }
+}
+
+// The station's number, and 0 where an entry has none, as in BEGIN, RESUME and one that is not taken.
+pub(crate) fn station_of(read: Read) -> u8
+    ensures { λ r. ⌜ r ≡ stationOf read ⌝ }
+{
+    match read {
+        Read::End => 0,
+        Read::Whole(e, _) => e.station,
+        Read::Refused(_, _) => 0,
+    }
+}
+
+// A station's letter, and - where there is none.
+pub(crate) fn letter_at(station: u8) -> u8
+    ensures { λ r. ⌜ r ≡ letterAt station ⌝ }
+{
+    if station == 1 {
+        return b'A';
+    }
+    if station == 2 {
+        return b'B';
+    }
+    b'-'
+}
+
+// A speed: B booked, W walking pace, - none, else its number.
+pub(crate) fn put_speed(block: &mut [u8], at: usize, speed: Speed) -> usize
+    requires { ⌜ at + 21 ≤ length (now block) ⌝ }
+    ensures { λ r. ⌜ Puts (now (block .entry)) at (speedText speed) r (now (block .exit)) × (r ≤ at + 21) ⌝ }
+{
+    match speed {
+        Speed::NoSpeed => put_two(block, at, b' ', b'-'),
+        Speed::Walking => put_two(block, at, b' ', b'W'),
+        Speed::Kmh(kmh) => put_field(block, at, kmh as usize),
+        Speed::Booked => put_two(block, at, b' ', b'B'),
+    }
+}
+
+// An answer: `no` and the refusal's number, or `ok`, form number, forms and speed.
+pub(crate) fn put_answer(block: &mut [u8], at: usize, answer: Answer) -> usize
+    requires { ⌜ at + 66 ≤ length (now block) ⌝ }
+    ensures { λ r. ⌜ Puts (now (block .entry)) at (answerText answer) r (now (block .exit)) × (r ≤ at + 66) ⌝ }
+{
+    match answer {
+        Answer::Refused(why) => {
+            let at = put_three(block, at, b' ', b'n', b'o');
+            put_field(block, at, why.number() as usize)
+        }
+        Answer::Accepted { form, forms, speed } => {
+            let at = put_three(block, at, b' ', b'o', b'k');
+            let at = put_field(block, at, form as usize);
+            let at = put_field(block, at, forms as usize);
+            put_speed(block, at, speed)
+        }
+    }
+}
+
+// An entry's line: its number in the log, kind, station and answer.
+pub(crate) fn put_line(block: &mut [u8], at: usize, number: usize, read: Read, answer: Answer) -> usize
+    requires { ⌜ at + 172 ≤ length (now block) ⌝ }
+    ensures { λ r. ⌜ Puts (now (block .entry)) at (lineOf number read answer) r (now (block .exit)) ⌝ }
+{
+    let at = put_number(block, at, number);
+    let at = put_field(block, at, kind_of(read) as usize);
+    let at = put_two(block, at, b' ', letter_at(station_of(read)));
+    let at = put_answer(block, at, answer);
+    put(block, at, b'\n')
+}
+
+// A station's line clears, held and owed.
+pub(crate) fn put_desk(block: &mut [u8], at: usize, desk: Desk) -> usize
+    requires { ⌜ at + 42 ≤ length (now block) ⌝ }
+    ensures { λ r. ⌜ Puts (now (block .entry)) at (deskText desk) r (now (block .exit)) × (r ≤ at + 42) ⌝ }
+{
+    let at = put_field(block, at, desk.holds as usize);
+    put_field(block, at, desk.owes as usize)
+}
+
+// The last line: `end`, entries, accepted, refused, vehicles present, A holds, A owes, B holds, B owes.
+pub(crate) fn put_end(block: &mut [u8], at: usize, entries: usize, accepted: usize, s: Section) -> usize
+    requires { ⌜ at + 172 ≤ length (now block) ⌝ }
+    ensures { λ r. ⌜ Puts (now (block .entry)) at (endLine entries accepted s) r (now (block .exit)) ⌝ }
+{
+    let a = s.a;
+    let b = s.b;
+    let at = put_three(block, at, b'e', b'n', b'd');
+    let at = put_field(block, at, entries);
+    let at = put_field(block, at, accepted);
+    let at = put_field(block, at, s.refused as usize);
+    let at = put_field(block, at, s.len);
+    let at = put_desk(block, at, a);
+    let at = put_desk(block, at, b);
+    put(block, at, b'\n')
+}
+
+// The only line of a log that is too long.
+pub(crate) fn put_long(block: &mut [u8], at: usize) -> usize
+    requires { ⌜ at + 5 ≤ length (now block) ⌝ }
+    ensures { λ r. ⌜ Puts (now (block .entry)) at longLine r (now (block .exit)) ⌝ }
+{
+    let at = put_three(block, at, b'l', b'o', b'n');
+    put_two(block, at, b'g', b'\n')
+}

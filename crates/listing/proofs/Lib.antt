@@ -1,4 +1,5 @@
 pub mod Decimal
+pub mod Ending
 pub mod Filling
 pub mod Putting
 pub mod Whole

@@ -83,7 +83,13 @@ pub(crate) fn put_answer(block: &mut [u8], at: usize, answer: Answer) -> usize
 }
 
 // An entry's line: its number in the log, kind, station and answer.
-pub(crate) fn put_line(block: &mut [u8], at: usize, number: usize, read: Read, answer: Answer) -> usize
+pub(crate) fn put_line(
+    block: &mut [u8],
+    at: usize,
+    number: usize,
+    read: Read,
+    answer: Answer,
+) -> usize
     requires { ⌜ at + 172 ≤ length (now block) ⌝ }
     ensures { λ r. ⌜ Puts (now (block .entry)) at (lineOf number read answer) r (now (block .exit)) ⌝ }
 {
@@ -104,7 +110,13 @@ pub(crate) fn put_desk(block: &mut [u8], at: usize, desk: Desk) -> usize
 }
 
 // The last line: `end`, entries, accepted, refused, vehicles present, A holds, A owes, B holds, B owes.
-pub(crate) fn put_end(block: &mut [u8], at: usize, entries: usize, accepted: usize, s: Section) -> usize
+pub(crate) fn put_end(
+    block: &mut [u8],
+    at: usize,
+    entries: usize,
+    accepted: usize,
+    s: Section,
+) -> usize
     requires { ⌜ at + 172 ≤ length (now block) ⌝ }
     ensures { λ r. ⌜ Puts (now (block .entry)) at (endLine entries accepted s) r (now (block .exit)) ⌝ }
 {

@@ -1,6 +1,6 @@
 // The lines of a listing.
 ghost use Prim.Native.Nat.{_+_, _≤_};
-ghost use Rattle.listing.specs.Lines.{answerText, deskText, endLine, kindOf, letterAt, lineOf, longLine, speedText, stationOf};
+ghost use Rattle.listing.specs.Lines.{answerText, deskText, endLine, kindOf, letterAt, lineOf, longLine, longestLine, speedText, stationOf};
 ghost use Rattle.listing.specs.Text.{Puts};
 ghost use lib.ListN.{length};
 ghost use mathlib.Core.Path.{_≡_};
@@ -90,7 +90,7 @@ pub(crate) fn put_line(
     read: Read,
     answer: Answer,
 ) -> usize
-    requires { ⌜ at + 172 ≤ length (now block) ⌝ }
+    requires { ⌜ at + longestLine ≤ length (now block) ⌝ }
     ensures { λ r. ⌜ Puts (now (block .entry)) at (lineOf number read answer) r (now (block .exit)) ⌝ }
 {
     let at = put_number(block, at, number);
@@ -117,7 +117,7 @@ pub(crate) fn put_end(
     accepted: usize,
     s: Section,
 ) -> usize
-    requires { ⌜ at + 172 ≤ length (now block) ⌝ }
+    requires { ⌜ at + longestLine ≤ length (now block) ⌝ }
     ensures { λ r. ⌜ Puts (now (block .entry)) at (endLine entries accepted s) r (now (block .exit)) ⌝ }
 {
     let a = s.a;

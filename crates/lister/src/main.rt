@@ -9,11 +9,7 @@ fn main() {
     let log = &input[..len];
     let mut block = [0u8; 16384];
     let mut listing = listing::begin(log);
-    // A log has no more entries than bytes, and one last line, so that many blocks are enough even at a line each.
-    for _ in 0..65537 {
-        if listing.ended {
-            return;
-        }
+    while !listing.ended {
         let filled = listing::fill(listing, log, &mut block);
         let count = filled.count;
         io::write_all(STDOUT_FILENO, &block[..count]);

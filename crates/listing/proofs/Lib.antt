@@ -1,4 +1,6 @@
 pub mod Decimal
+pub mod Ending
+pub mod Examples
 pub mod Filling
 pub mod Putting
 pub mod Whole

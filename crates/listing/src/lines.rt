@@ -1,6 +1,6 @@
 // The lines of a listing.
 ghost use Prim.Native.Nat.{_+_, _≤_};
-ghost use Rattle.listing.specs.Lines.{answerText, deskText, endLine, kindOf, letterAt, lineOf, longLine, speedText, stationOf};
+ghost use Rattle.listing.specs.Lines.{answerText, deskText, endLine, kindOf, letterAt, lineOf, longLine, longestLine, speedText, stationOf};
 ghost use Rattle.listing.specs.Text.{Puts};
 ghost use lib.ListN.{length};
 ghost use mathlib.Core.Path.{_≡_};
@@ -83,8 +83,14 @@ pub(crate) fn put_answer(block: &mut [u8], at: usize, answer: Answer) -> usize
 }
 
 // An entry's line: its number in the log, kind, station and answer.
-pub(crate) fn put_line(block: &mut [u8], at: usize, number: usize, read: Read, answer: Answer) -> usize
-    requires { ⌜ at + 172 ≤ length (now block) ⌝ }
+pub(crate) fn put_line(
+    block: &mut [u8],
+    at: usize,
+    number: usize,
+    read: Read,
+    answer: Answer,
+) -> usize
+    requires { ⌜ at + longestLine ≤ length (now block) ⌝ }
     ensures { λ r. ⌜ Puts (now (block .entry)) at (lineOf number read answer) r (now (block .exit)) ⌝ }
 {
     let at = put_number(block, at, number);
@@ -104,8 +110,14 @@ pub(crate) fn put_desk(block: &mut [u8], at: usize, desk: Desk) -> usize
 }
 
 // The last line: `end`, entries, accepted, refused, vehicles present, A holds, A owes, B holds, B owes.
-pub(crate) fn put_end(block: &mut [u8], at: usize, entries: usize, accepted: usize, s: Section) -> usize
-    requires { ⌜ at + 172 ≤ length (now block) ⌝ }
+pub(crate) fn put_end(
+    block: &mut [u8],
+    at: usize,
+    entries: usize,
+    accepted: usize,
+    s: Section,
+) -> usize
+    requires { ⌜ at + longestLine ≤ length (now block) ⌝ }
     ensures { λ r. ⌜ Puts (now (block .entry)) at (endLine entries accepted s) r (now (block .exit)) ⌝ }
 {
     let a = s.a;

@@ -1,17 +1,20 @@
--- `lister::main` is safe and ends: what is read fits the input, what is filled fits the block, and the blocks are counted.
+-- `lister::main` is safe and ends: what is read fits the input, what is filled fits the block, and a block leaves fewer lines to come.
 -- Assumes nothing.
-use Prim.Native.Nat.{_-_, _≤_}
 use Rattle.lister.proofs.main.Statement.{statement}
 use Rattle.lister.proofs.main.Tie as tie
+use Rattle.listing.proofs.Ending.{block-fewer, linesLeft}
 use borrow.Author.Needs.{needs}
+use borrow.Author.Tests.{not-true}
 use lib.ListN.{length}
-use mathlib.Core.Path.{_≡_}
+use lib.Seq.{length-take-le}
+use mathlib.Core.Path.{_≡_, sym}
+use native.Mathlib.Omega.{arith}
 
 abbrev Inv-loop : tie.InvT-loop
-Inv-loop len log block₀ listing₀ counter₀ block listing counter = (counter ≤ 65537) × (length block ≡ 16384)
+Inv-loop len log block₀ listing₀ block listing = length block ≡ 16384
 
 abbrev μ-loop : tie.MeasureT-loop
-μ-loop len log block₀ listing₀ counter₀ block listing counter = 65537 - counter
+μ-loop len log block₀ listing₀ block listing = linesLeft listing
 
 slice-aggregate-read-full : tie.Need-slice-aggregate-read-full Inv-loop μ-loop
 slice-aggregate-read-full c = search needs
@@ -31,9 +34,6 @@ begin-requires c κs = search needs
 loop-holds : tie.Need-loop-holds Inv-loop μ-loop
 loop-holds c = search needs
 
-returns : tie.Need-returns Inv-loop μ-loop
-returns c = search needs
-
 slice-aggregate-fill : tie.Need-slice-aggregate-fill Inv-loop μ-loop
 slice-aggregate-fill c = search needs
 
@@ -44,22 +44,24 @@ array-share-prefix-block : tie.Need-array-share-prefix-block Inv-loop μ-loop
 array-share-prefix-block c = search needs
 
 slice-aggregate-write-all : tie.Need-slice-aggregate-write-all Inv-loop μ-loop
-slice-aggregate-write-all c = search needs
+slice-aggregate-write-all c =
+    let fill = c .before .before .fill in
+    sym (length-take-le (fill .result .count) (fill .last .1 .1 .0) (omega (arith, fill .ensures .room, fill .kept .1 .1 .0)))
 
 write-all-requires : tie.Need-write-all-requires Inv-loop μ-loop
 write-all-requires c κs = search needs
 
-add-counter : tie.Need-add-counter Inv-loop μ-loop
-add-counter c = search needs
-
 loop-less : tie.Need-loop-less Inv-loop μ-loop
-loop-less c = search needs
+loop-less c =
+    let l = c .before .before .before .before .before .before .before .before .loop in
+    rw (c .before .before .before .before .fill .ensures .listing)
+    (block-fewer _ (length (l .block)) (l .listing) (length (l .block)) (not-true (l .listing .ended) (c .before .before .before .before .before .before .if1 .taken)) (omega (arith, l .inv)) (omega (arith, l .inv)))
 
 loop-again : tie.Need-loop-again Inv-loop μ-loop
 loop-again c = search needs
 
-returns-2 : tie.Need-returns-2 Inv-loop μ-loop
-returns-2 c = search needs
+returns : tie.Need-returns Inv-loop μ-loop
+returns c = search needs
 
 pub main-spec : {M : Type 1} → statement M
 main-spec =
@@ -73,13 +75,11 @@ main-spec =
     slice-aggregate-log
     begin-requires
     loop-holds
-    returns
     slice-aggregate-fill
     fill-requires
     array-share-prefix-block
     slice-aggregate-write-all
     write-all-requires
-    add-counter
     loop-less
     loop-again
-    returns-2)
+    returns)

@@ -60,8 +60,7 @@ returns-2 c =
     let speed = c .before .before in
     let forms = speed .before .before .before .before in
     let form = forms .before .before .before .before in
-    let word = form .before .before .before .before in
-    (
+    let word = form .before .before .before .before in (
       rw (word .before .before .before .answer2 .given .1) (word .put-three2 .ensures then form .put-field2 .ensures .0 then forms .put-field3 .ensures .0 then speed .put-speed .ensures .0),
       omega (arith, word .put-three2 .ensures .place, form .put-field2 .ensures .1, forms .put-field3 .ensures .1, speed .put-speed .ensures .1),
     )

@@ -1,5 +1,5 @@
 -- Short logs of the second program's generator, and the answers that its lister gave, by computation on the definitions.
--- Written by scripts/short-logs; never by hand. Assumes nothing.
+-- Written by scripts/stored-logs; never by hand. Assumes nothing.
 use Prim.Native.Nat.{ℕ}
 use Rattle.working.proofs.Session.{answersOf}
 use Rattle.working.specs.Entries.{entryIn, judge, lengthOf, mapFits, rangesHold, readAt}

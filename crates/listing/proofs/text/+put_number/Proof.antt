@@ -26,105 +26,46 @@ put-number-at t = and 1 put-number-kinds.ps (is 1 put-number-kinds.ps μ-put-num
 abbrev put-number-below : ℕ → In 1 put-number-kinds.ps
 put-number-below t = and 1 put-number-kinds.ps (falls 1 put-number-kinds.ps _<_ μ-put-number t) put-number.Pre
 
-put-number-last-digit-requires : (t : ℕ) → put-number-lts.Need-last-digit-requires (
-  last-digit-reads.Asked,
-  last-digit-reads.Learnt,
-  put-reads.Asked,
-  put-reads.Learnt,
-  put-number-below t,
-  put-number.Post,
-) (put-number-at t) put-number.Post
+-- what is asked and learnt of each call
+abbrev claims : ℕ → put-number-lts.Claims
+claims t = (last-digit-reads.Asked, last-digit-reads.Learnt, put-reads.Asked, put-reads.Learnt, put-number-below t, put-number.Post)
+
+put-number-last-digit-requires : (t : ℕ) → put-number-lts.Need-last-digit-requires (claims t) (put-number-at t) put-number.Post
 put-number-last-digit-requires t c κs = search needs
 
-put-number-put-requires : (t : ℕ) → put-number-lts.Need-put-requires (
-  last-digit-reads.Asked,
-  last-digit-reads.Learnt,
-  put-reads.Asked,
-  put-reads.Learnt,
-  put-number-below t,
-  put-number.Post,
-) (put-number-at t) put-number.Post
+put-number-put-requires : (t : ℕ) → put-number-lts.Need-put-requires (claims t) (put-number-at t) put-number.Post
 put-number-put-requires t c κs =
     let start = c .before .before .before .before in
     omega (arith, start .pre .1, ap length (one-digit (start .args .n) (c .before .before .if1 .taken)))
 
-put-number-same-length : (t : ℕ) → put-number-lts.Need-same-length (
-  last-digit-reads.Asked,
-  last-digit-reads.Learnt,
-  put-reads.Asked,
-  put-reads.Learnt,
-  put-number-below t,
-  put-number.Post,
-) (put-number-at t) put-number.Post
+put-number-same-length : (t : ℕ) → put-number-lts.Need-same-length (claims t) (put-number-at t) put-number.Post
 put-number-same-length t c = search needs
 
-put-number-returns : (t : ℕ) → put-number-lts.Need-returns (
-  last-digit-reads.Asked,
-  last-digit-reads.Learnt,
-  put-reads.Asked,
-  put-reads.Learnt,
-  put-number-below t,
-  put-number.Post,
-) (put-number-at t) put-number.Post
+put-number-returns : (t : ℕ) → put-number-lts.Need-returns (claims t) (put-number-at t) put-number.Post
 put-number-returns t c =
     let last = c .before .before in
     let start = last .before .before .before .before .before in
     rw (one-digit (start .args .n) (last .before .before .before .if1 .taken), ← last .before .last-digit .ensures) (last .put .ensures)
 
-put-number-put-number-requires : (t : ℕ) → put-number-lts.Need-put-number-requires (
-  last-digit-reads.Asked,
-  last-digit-reads.Learnt,
-  put-reads.Asked,
-  put-reads.Learnt,
-  put-number-below t,
-  put-number.Post,
-) (put-number-at t) put-number.Post
+put-number-put-number-requires : (t : ℕ) → put-number-lts.Need-put-number-requires (claims t) (put-number-at t) put-number.Post
 put-number-put-number-requires t c κs =
     let start = c .before .before .before in
     let shorter = one-longer (start .args .n) (c .before .if1 .left) in
     (omega (arith, start .pre .0, c .before .if1 .left), omega (arith, start .pre .1, shorter))
 
-put-number-last-digit-requires-2 : (t : ℕ) → put-number-lts.Need-last-digit-requires-2 (
-  last-digit-reads.Asked,
-  last-digit-reads.Learnt,
-  put-reads.Asked,
-  put-reads.Learnt,
-  put-number-below t,
-  put-number.Post,
-) (put-number-at t) put-number.Post
+put-number-last-digit-requires-2 : (t : ℕ) → put-number-lts.Need-last-digit-requires-2 (claims t) (put-number-at t) put-number.Post
 put-number-last-digit-requires-2 t c κs = search needs
 
-put-number-put-requires-2 : (t : ℕ) → put-number-lts.Need-put-requires-2 (
-  last-digit-reads.Asked,
-  last-digit-reads.Learnt,
-  put-reads.Asked,
-  put-reads.Learnt,
-  put-number-below t,
-  put-number.Post,
-) (put-number-at t) put-number.Post
+put-number-put-requires-2 : (t : ℕ) → put-number-lts.Need-put-requires-2 (claims t) (put-number-at t) put-number.Post
 put-number-put-requires-2 t c κs =
     let others = c .before .before .before .before in
     let start = others .before .before .before .before in
     omega (arith, start .pre .1, one-longer (start .args .n) (others .before .before .if1 .left), others .put-number .ensures .place, others .put-number .kept .0)
 
-put-number-same-length-2 : (t : ℕ) → put-number-lts.Need-same-length-2 (
-  last-digit-reads.Asked,
-  last-digit-reads.Learnt,
-  put-reads.Asked,
-  put-reads.Learnt,
-  put-number-below t,
-  put-number.Post,
-) (put-number-at t) put-number.Post
+put-number-same-length-2 : (t : ℕ) → put-number-lts.Need-same-length-2 (claims t) (put-number-at t) put-number.Post
 put-number-same-length-2 t c = search needs
 
-put-number-returns-2 : (t : ℕ) → put-number-lts.Need-returns-2 (
-  last-digit-reads.Asked,
-  last-digit-reads.Learnt,
-  put-reads.Asked,
-  put-reads.Learnt,
-  put-number-below t,
-  put-number.Post,
-) (put-number-at t) put-number.Post
+put-number-returns-2 : (t : ℕ) → put-number-lts.Need-returns-2 (claims t) (put-number-at t) put-number.Post
 put-number-returns-2 t c =
     let last = c .before .before in
     let others = last .before .before .before .before .before in
@@ -132,14 +73,7 @@ put-number-returns-2 t c =
     rw (more-digits (start .args .n) (others .before .before .if1 .left), ← last .before .last-digit2 .ensures) (others .put-number .ensures then last .put2 .ensures)
 
 pub +put-number-spec : {M : Type 1} → statement M
-+put-number-spec = close μ-put-number λ t. put-number-lts.spec (
-  last-digit-reads.Asked,
-  last-digit-reads.Learnt,
-  put-reads.Asked,
-  put-reads.Learnt,
-  put-number-below t,
-  put-number.Post,
-)
++put-number-spec = close μ-put-number λ t. put-number-lts.spec (claims t)
     (put-number-at t)
     put-number.Post
     (put-number-last-digit-requires t)

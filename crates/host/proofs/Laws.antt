@@ -1,0 +1,43 @@
+-- The lines of a listing that has ended are the listing of document 01: `whole`. Eight stores, one behind the other, are eight figures at the front: `eight`.
+-- Assumes nothing.
+use Prim.Native.Nat.{_<_, _≤_, ℕ}
+use Rattle.host.specs.Answers.{Lists, fits, linesIn}
+use Rattle.listing.proofs.Whole.{blocks}
+use Rattle.listing.specs.Blocks.{block, none-left}
+use Rattle.listing.specs.Listings.{listingOf}
+use Rattle.listing.specs.Turns.{Fills, begun}
+use Rattle.listing.specs.declared.blocks.Filled.{Filled}
+use Rattle.listing.specs.declared.turns.Listing.{Listing}
+use Rattle.working.specs.Entries.{pasted}
+use lib.ListN.{length, set}
+use mathlib.Core.Bool.{Bool, cond, false, true}
+use mathlib.Core.List.{List, [], _++_, _∷_, append-nil}
+use mathlib.Core.Path.{_∙_, _≡_, ap, refl, sym}
+use native.Mathlib.Omega.{arith}
+
+pub whole : (log : List ℕ) (room : ℕ) → length log < 18446744073709551615 → fits log room ≡ true → linesIn log room ≡ listingOf log
+whole log room h e = sym (append-nil (linesIn log room)) ∙ blocks log (linesIn log room ++ []) h (block room (none-left e))
+
+-- a buffer that was filled once, from the start, where it is known whether the listing has ended
+pub lists : {log out after : List ℕ} {filled : Filled} (b : Bool) → length log < 18446744073709551615 → Fills log (begun log) out filled after → filled .listing .ended ≡ b
+    → Lists log out (cond b (filled .count) 0) after
+lists {log} {out} {after} {filled} b h f e = record { count = counted b known; left = f .left; whole = whole log (length out) h }
+  where
+    known : fits log (length out) ≡ b
+    known = sym (ap (λ (l : Listing). l .ended) (f .listing)) ∙ e
+
+    counted : (b : Bool) → fits log (length out) ≡ b → cond b (filled .count) 0 ≡ cond (fits log (length out)) (length (listingOf log)) 0
+    counted true known = rw known (f .count ∙ ap length (whole log (length out) h known))
+    counted false known = rw known
+
+pub eight : (l : List ℕ) (a b c d e f g h : ℕ) → 8 ≤ length l
+    → set (set (set (set (set (set (set (set l 0 a) 1 b) 2 c) 3 d) 4 e) 5 f) 6 g) 7 h ≡ pasted l 0 (a ∷ b ∷ c ∷ d ∷ e ∷ f ∷ g ∷ h ∷ [])
+eight (x₀ ∷ x₁ ∷ x₂ ∷ x₃ ∷ x₄ ∷ x₅ ∷ x₆ ∷ x₇ ∷ l) a b c d e f g h room = refl
+eight [] a b c d e f g h room = absurd (omega arith)
+eight (x₀ ∷ []) a b c d e f g h room = absurd (omega arith)
+eight (x₀ ∷ x₁ ∷ []) a b c d e f g h room = absurd (omega arith)
+eight (x₀ ∷ x₁ ∷ x₂ ∷ []) a b c d e f g h room = absurd (omega arith)
+eight (x₀ ∷ x₁ ∷ x₂ ∷ x₃ ∷ []) a b c d e f g h room = absurd (omega arith)
+eight (x₀ ∷ x₁ ∷ x₂ ∷ x₃ ∷ x₄ ∷ []) a b c d e f g h room = absurd (omega arith)
+eight (x₀ ∷ x₁ ∷ x₂ ∷ x₃ ∷ x₄ ∷ x₅ ∷ []) a b c d e f g h room = absurd (omega arith)
+eight (x₀ ∷ x₁ ∷ x₂ ∷ x₃ ∷ x₄ ∷ x₅ ∷ x₆ ∷ []) a b c d e f g h room = absurd (omega arith)

@@ -1,0 +1,35 @@
+/* The register desk core for a host in C: link target/staticlib/libhost.a, which `rt staticlib host` builds. */
+#ifndef LUPINSHIFT_H
+#define LUPINSHIFT_H
+
+#include <stddef.h>
+#include <stdint.h>
+
+#ifdef __cplusplus
+extern "C" {
+#endif
+
+/* The longest log that is listed, in bytes; of a longer one the listing is `long`. */
+#define LUPIN_LONGEST_LOG 65536
+
+/* A buffer of so many bytes takes the listing of any log of n bytes. */
+#define LUPIN_LISTING_ROOM(n) (20 * (size_t)(n) + 512)
+
+/* How many figures the last line of a listing has. */
+#define LUPIN_FIGURES 8
+
+/* Puts the listing of the log at the front of out and answers its length; the bytes behind it keep their values.
+   A line is put as long as 172 bytes are left. Where out is too short the answer is 0, and out holds the lines that were put.
+   The two must not overlap; out is not read. */
+size_t lupin_list(const uint8_t *log, size_t log_len, uint8_t *out, size_t out_len);
+
+/* Puts the eight figures of the log's last line at the front of figures and answers 8: entries, accepted, refused, vehicles present,
+   A holds, A owes, B holds, B owes. Where figures has fewer than eight places nothing is altered, and the answer is 0.
+   A log of any length is run. */
+size_t lupin_figures(const uint8_t *log, size_t log_len, uint64_t *figures, size_t figures_len);
+
+#ifdef __cplusplus
+}
+#endif
+
+#endif

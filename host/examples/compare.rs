@@ -120,6 +120,9 @@ fn compare(log: &[u8], random: &mut Random) -> Result<u64, &'static str> {
     if lupinshift::figures(log) != figures {
         return Err("the figures");
     }
+    if lupinshift::answer(log) != answer_of(log) {
+        return Err("the last answer");
+    }
     let mut few = [7; 7];
     if lupinshift::figures_into(log, &mut few) != 0 || few != [7; 7] {
         return Err("seven figures");
@@ -161,4 +164,11 @@ fn figures_of(log: &[u8]) -> [u64; 8] {
         third,
         fourth,
     ]
+}
+
+/// The number of the refusal that answers the last entry, by the second
+/// program.
+fn answer_of(log: &[u8]) -> u32 {
+    let refusal = Run::new(log).last().and_then(|line| line.answer.err());
+    refusal.map_or(0, |why| why.number().into())
 }

@@ -14,6 +14,7 @@ mod exported {
             figures: *mut u64,
             figures_len: usize,
         ) -> usize;
+        pub fn lupin_answer(log: *const u8, log_len: usize) -> u32;
     }
 }
 
@@ -57,4 +58,12 @@ pub fn figures(log: &[u8]) -> [u64; 8] {
     let mut figures = [0; 8];
     figures_into(log, &mut figures);
     figures
+}
+
+/// The number of the refusal that answers the log's last entry; 0 where that is
+/// accepted or the log has no entry.
+#[must_use]
+pub fn answer(log: &[u8]) -> u32 {
+    // SAFETY: it is a whole slice.
+    unsafe { exported::lupin_answer(log.as_ptr(), log.len()) }
 }

@@ -1,14 +1,19 @@
--- The lines of a listing that has ended are the listing of document 01: `whole`. Eight stores, one behind the other, are eight figures at the front: `eight`.
+-- The lines of a listing that has ended are the listing of document 01: `whole`, `lists`. A run from the fresh section is the log's: `from-fresh`. Eight stores, one behind the other, are eight figures at the front: `eight`.
 -- Assumes nothing.
 use Prim.Native.Nat.{_<_, _≤_, ℕ}
-use Rattle.host.specs.Answers.{Lists, fits, linesIn}
+use Rattle.host.specs.Answers.{Lists, fits, linesIn, ranOf}
 use Rattle.listing.proofs.Whole.{blocks}
 use Rattle.listing.specs.Blocks.{block, none-left}
 use Rattle.listing.specs.Listings.{listingOf}
 use Rattle.listing.specs.Turns.{Fills, begun}
 use Rattle.listing.specs.declared.blocks.Filled.{Filled}
 use Rattle.listing.specs.declared.turns.Listing.{Listing}
+use Rattle.step.specs.Running.{ranOver, start}
+use Rattle.step.specs.declared.running.Ran.{Ran}
 use Rattle.working.specs.Entries.{pasted}
+use Rattle.working.specs.Runs.{runOf}
+use Rattle.working.specs.Sections.{fresh}
+use Rattle.working.specs.declared.Section.{Section}
 use lib.ListN.{length, set}
 use mathlib.Core.Bool.{Bool, cond, false, true}
 use mathlib.Core.List.{List, [], _++_, _∷_, append-nil}
@@ -29,6 +34,10 @@ lists {log} {out} {after} {filled} b h f e = record { count = counted b known; l
     counted : (b : Bool) → fits log (length out) ≡ b → cond b (filled .count) 0 ≡ cond (fits log (length out)) (length (listingOf log)) 0
     counted true known = rw known (f .count ∙ ap length (whole log (length out) h known))
     counted false known = rw known
+
+-- the run of a whole log from a section that is the fresh one
+pub from-fresh : (log : List ℕ) {s : Section} {r : Ran} → r ≡ ranOver (start s) (runOf s log) → s ≡ fresh → r ≡ ranOf log
+from-fresh log e f = e ∙ ap (λ (s : Section). ranOver (start s) (runOf s log)) f
 
 pub eight : (l : List ℕ) (a b c d e f g h : ℕ) → 8 ≤ length l
     → set (set (set (set (set (set (set (set l 0 a) 1 b) 2 c) 3 d) 4 e) 5 f) 6 g) 7 h ≡ pasted l 0 (a ∷ b ∷ c ∷ d ∷ e ∷ f ∷ g ∷ h ∷ [])

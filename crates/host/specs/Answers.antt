@@ -3,10 +3,15 @@ use Prim.Native.Nat.{_+_, _≤_, ℕ}
 use Rattle.listing.specs.Listings.{listingOf}
 use Rattle.listing.specs.Turns.{begun, blockOf}
 use Rattle.step.specs.Running.{ranOver, start}
+use Rattle.step.specs.declared.running.Last.{Last}
+use Rattle.step.specs.declared.running.Last.the-variants.{Answered, NoEntry}
 use Rattle.step.specs.declared.running.Ran.{Ran}
 use Rattle.working.specs.Entries.{pasted}
+use Rattle.working.specs.Refusals.{numberOf}
 use Rattle.working.specs.Runs.{runOf}
 use Rattle.working.specs.Sections.{fresh}
+use Rattle.working.specs.declared.Answer.{Answer}
+use Rattle.working.specs.declared.Answer.the-variants as answer
 use lib.Dec.{ltb}
 use lib.ListN.{length}
 use mathlib.Core.Bool.{Bool, cond, true}
@@ -51,3 +56,15 @@ figuresOf r =
 pub record Figures (log figures : List ℕ) (r : ℕ) (after : List ℕ) : Type 0 where
   pub count : r ≡ cond (ltb (length figures) 8) 0 8
   pub left : after ≡ cond (ltb (length figures) 8) figures (pasted figures 0 (figuresOf (ranOf log)))
+
+-- ---- the last answer
+
+-- the number of a refusal; 0 where the entry is accepted
+abbrev pub refusalOf : Answer → ℕ
+refusalOf (answer.Refused why) = numberOf why
+refusalOf (answer.Accepted form forms speed) = 0
+
+-- 0 too where there was no entry
+abbrev pub lastOf : Last → ℕ
+lastOf NoEntry = 0
+lastOf (Answered a) = refusalOf a

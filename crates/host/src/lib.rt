@@ -1,5 +1,8 @@
-// Functions for a host in C or Rust: a log's listing, and the figures of its last line. Byte slices and numbers only; host/lupinshift.h declares them.
-ghost use Rattle.host.specs.Answers.{Figures, Lists};
+// Functions for a host in C or Rust: a log's listing, the figures of its last line, and the answer to its last entry. Byte slices and numbers only; host/lupinshift.h declares them.
+ghost use Rattle.host.specs.Answers.{Figures, Lists, lastOf, ranOf, refusalOf};
+ghost use mathlib.Core.Path.{_≡_};
+use step::Last;
+use working::Answer;
 use working::Section;
 
 // The listing of a log at the front of the buffer lent, and its length. The bytes behind it keep their values.
@@ -36,4 +39,37 @@ pub extern "C" fn lupin_figures(log: &[u8], figures: &mut [u64]) -> usize
     figures[6] = b.holds as u64;
     figures[7] = b.owes as u64;
     8
+}
+
+// The number of a refusal, and 0 where the answer is none.
+fn refusal_of(answer: Answer) -> u32
+    ensures { λ r. ⌜ r ≡ refusalOf answer ⌝ }
+{
+    match answer {
+        Answer::Refused(why) => why.number() as u32,
+        Answer::Accepted {
+            form: _,
+            forms: _,
+            speed: _,
+        } => 0,
+    }
+}
+
+fn last_of(last: Last) -> u32
+    ensures { λ r. ⌜ r ≡ lastOf last ⌝ }
+{
+    match last {
+        Last::NoEntry => 0,
+        Last::Answered(answer) => refusal_of(answer),
+    }
+}
+
+// The number of the refusal that answers the last entry of a log, and 0 where that is accepted or the log has no entry. A log of any length is run.
+#[no_mangle]
+pub extern "C" fn lupin_answer(log: &[u8]) -> u32
+    ensures { λ r. ⌜ r ≡ lastOf (ranOf (now (log .entry)) .last) ⌝ }
+{
+    let ran = step::run(Section::fresh(), log, log.len());
+    let last = ran.last;
+    last_of(last)
 }

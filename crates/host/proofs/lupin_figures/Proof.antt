@@ -1,15 +1,12 @@
 -- `host::lupin_figures` meets its contract: eight stores at the front of the figures lent, of what the run of the whole log comes to.
 -- Assumes nothing.
 use Prim.Native.Nat.{_≤_}
-use Rattle.host.proofs.Laws.{eight}
+use Rattle.host.proofs.Laws.{eight, from-fresh}
 use Rattle.host.proofs.lupin_figures.Statement.{statement}
 use Rattle.host.proofs.lupin_figures.Tie as tie
 use Rattle.host.specs.Answers.{figuresOf, ranOf}
-use Rattle.step.specs.Running.{ranOver, start as begun}
 use Rattle.step.specs.declared.running.Ran.{Ran}
 use Rattle.working.specs.Entries.{pasted}
-use Rattle.working.specs.Runs.{runOf}
-use Rattle.working.specs.declared.Section.{Section}
 use borrow.Author.Needs.{needs}
 use borrow.Author.Tests.{le-ltb, lt-ltb}
 use lib.ListN.{length, length-set}
@@ -76,7 +73,7 @@ returns-2 c =
     let ran = run .run .result in
     let s = ran .section in
     let room : 8 ≤ length figures = run .before .before .if1 .left in
-    let known : ran ≡ ranOf log = run .run .ensures ∙ ap (λ (s : Section). ranOver (begun s) (runOf s log)) (run .before .fresh .ensures) in
+    let known : ran ≡ ranOf log = from-fresh log (run .run .ensures) (run .before .fresh .ensures) in
     let stored = eight figures (ran .entries) (ran .accepted) (s .refused) (s .len) (s .a .holds) (s .a .owes) (s .b .holds) (s .b .owes) room in
     record { count = simp (le-ltb _ _ room); left = rw (le-ltb _ _ room) (stored ∙ ap (λ (r : Ran). pasted figures 0 (figuresOf r)) known) }
 

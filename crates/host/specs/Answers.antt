@@ -1,7 +1,8 @@
 -- What a host is answered, and what its buffers then hold, by the definitions of the listing and of the run.
 use Prim.Native.Nat.{_+_, _≤_, ℕ}
 use Rattle.listing.specs.Listings.{listingOf}
-use Rattle.listing.specs.Turns.{begun, blockOf}
+use Rattle.listing.specs.Turns.{begun, blockOf, lastLine}
+use Rattle.listing.specs.declared.turns.Listing.{Listing}
 use Rattle.step.specs.Running.{ranOver, start}
 use Rattle.step.specs.declared.running.Last.{Last}
 use Rattle.step.specs.declared.running.Last.the-variants.{Answered, NoEntry}
@@ -14,7 +15,7 @@ use Rattle.working.specs.declared.Answer.{Answer}
 use Rattle.working.specs.declared.Answer.the-variants as answer
 use lib.Dec.{ltb}
 use lib.ListN.{length}
-use mathlib.Core.Bool.{Bool, cond, true}
+use mathlib.Core.Bool.{Bool, cond, false, true}
 use mathlib.Core.List.{List, [], _∷_}
 use mathlib.Core.Path.{_≡_}
 
@@ -33,11 +34,25 @@ pub record Lists (log out : List ℕ) (r : ℕ) (after : List ℕ) : Type 0 wher
   pub left : after ≡ pasted out 0 (linesIn log (length out))
   pub whole : fits log (length out) ≡ true → linesIn log (length out) ≡ listingOf log
 
--- ---- the figures
+-- ---- the last line
 
 -- a whole log from the fresh section
 abbrev pub ranOf : List ℕ → Ran
 ranOf log = ranOver (start fresh) (runOf fresh log)
+
+-- the listing behind the last entry of a run
+abbrev pub behind : List ℕ → Ran → Listing
+behind log r = record { section = r .section; at = length log; left = 0; entries = r .entries; accepted = r .accepted; ended = false }
+
+abbrev pub endOf : List ℕ → List ℕ
+endOf log = lastLine (behind log (ranOf log)) (length log)
+
+-- the last line and its length; or 0, and nothing altered, where there is no room for the longest
+pub record Ends (log out : List ℕ) (r : ℕ) (after : List ℕ) : Type 0 where
+  pub count : r ≡ cond (ltb (length out) 172) 0 (length (endOf log))
+  pub left : after ≡ cond (ltb (length out) 172) out (pasted out 0 (endOf log))
+
+-- ---- the figures
 
 -- "entries, accepted, refused, vehicles present, A holds, A owes, B holds, B owes"
 abbrev pub figuresOf : Ran → List ℕ

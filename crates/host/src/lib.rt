@@ -1,6 +1,7 @@
-// Functions for a host in C or Rust: a log's listing, the figures of its last line, and the answer to its last entry. Byte slices and numbers only; host/lupinshift.h declares them.
-ghost use Rattle.host.specs.Answers.{Figures, Lists, lastOf, ranOf, refusalOf};
+// Functions for a host in C or Rust: a log's listing, its last line alone, as text and as figures, and the answer to its last entry. Byte slices and numbers only; host/lupinshift.h declares them.
+ghost use Rattle.host.specs.Answers.{Ends, Figures, Lists, lastOf, ranOf, refusalOf};
 ghost use mathlib.Core.Path.{_≡_};
+use listing::Listing;
 use step::Last;
 use working::Answer;
 use working::Section;
@@ -15,6 +16,26 @@ pub extern "C" fn lupin_list(log: &[u8], out: &mut [u8]) -> usize
     let filled = listing::fill(listing::begin(log), log, out);
     let at = filled.listing;
     if at.ended { filled.count } else { 0 }
+}
+
+// The last line alone of a log's listing, at the front of the buffer lent, and its length. The bytes behind it keep their values.
+// A buffer with no room for the longest line, 172 bytes, keeps its values, and the answer is 0.
+#[no_mangle]
+pub extern "C" fn lupin_end(log: &[u8], out: &mut [u8]) -> usize
+    ensures { λ r. ⌜ Ends (now (log .entry)) (now (out .entry)) r (now (out .exit)) ⌝ }
+{
+    let ran = step::run(Section::fresh(), log, log.len());
+    let section = ran.section;
+    let behind = Listing {
+        section,
+        at: log.len(),
+        left: 0,
+        entries: ran.entries,
+        accepted: ran.accepted,
+        ended: false,
+    };
+    let filled = listing::fill(behind, log, out);
+    filled.count
 }
 
 // The eight figures of a log's last line, in its order, at the front of the numbers lent, and 8: entries, accepted, refused, vehicles present, A holds, A owes, B holds, B owes.

@@ -3,14 +3,12 @@
 
 use std::process::ExitCode;
 
+use lupinshift::LONGEST_LINE;
 use second::generator::{log, Options};
 use second::random::Random;
 use second::Run;
 
 const USAGE: &str = "usage: compare LOGS";
-
-/// The library puts a line as long as so many bytes are left.
-const LONGEST_LINE: usize = 172;
 
 /// What stands in a buffer before it is lent.
 const BEFORE: u8 = 0xAA;
@@ -116,6 +114,12 @@ fn compare(log: &[u8], random: &mut Random) -> Result<u64, &'static str> {
     if (count, out) != lines_in(&listing, room) {
         return Err("a short buffer");
     }
+    let last = listing.split_inclusive(|&byte| byte == b'\n').next_back();
+    let mut out = vec![BEFORE; room % (2 * LONGEST_LINE)];
+    let count = lupinshift::end_into(log, &mut out);
+    if (count, out) != end_in(last.unwrap_or_default(), room % (2 * LONGEST_LINE)) {
+        return Err("the last line");
+    }
     let figures = figures_of(log);
     if lupinshift::figures(log) != figures {
         return Err("the figures");
@@ -128,6 +132,11 @@ fn compare(log: &[u8], random: &mut Random) -> Result<u64, &'static str> {
         return Err("seven figures");
     }
     Ok(figures[0])
+}
+
+/// As [`lines_in`], of the last line alone.
+fn end_in(line: &[u8], room: usize) -> (usize, Vec<u8>) {
+    lines_in(if room < LONGEST_LINE { &[] } else { line }, room)
 }
 
 /// What a buffer of so many bytes takes of a listing: the answer, and the

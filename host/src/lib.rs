@@ -8,6 +8,7 @@
 mod exported {
     extern "C" {
         pub fn lupin_list(log: *const u8, log_len: usize, out: *mut u8, out_len: usize) -> usize;
+        pub fn lupin_end(log: *const u8, log_len: usize, out: *mut u8, out_len: usize) -> usize;
         pub fn lupin_figures(
             log: *const u8,
             log_len: usize,
@@ -22,6 +23,9 @@ mod exported {
 /// `long`.
 pub const LONGEST_LOG: usize = 65_536;
 
+/// The room that any one line of a listing takes, in bytes.
+pub const LONGEST_LINE: usize = 172;
+
 /// The room, in bytes, that takes the listing of any log of `bytes` bytes.
 #[must_use]
 pub const fn listing_room(bytes: usize) -> usize {
@@ -29,10 +33,18 @@ pub const fn listing_room(bytes: usize) -> usize {
 }
 
 /// Puts the listing of the log at the front of `out`; its length, or 0 where
-/// `out` is too short. A line is put as long as 172 bytes are left.
+/// `out` is too short. A line is put as long as
+/// [`LONGEST_LINE`] bytes are left.
 pub fn list_into(log: &[u8], out: &mut [u8]) -> usize {
     // SAFETY: both are whole slices, and a `&mut` slice overlaps no other.
     unsafe { exported::lupin_list(log.as_ptr(), log.len(), out.as_mut_ptr(), out.len()) }
+}
+
+/// Puts the last line alone of the log's listing at the front of `out`; its
+/// length, or 0 where `out` has fewer than [`LONGEST_LINE`] bytes.
+pub fn end_into(log: &[u8], out: &mut [u8]) -> usize {
+    // SAFETY: both are whole slices, and a `&mut` slice overlaps no other.
+    unsafe { exported::lupin_end(log.as_ptr(), log.len(), out.as_mut_ptr(), out.len()) }
 }
 
 /// Puts the figures of the log's last line at the front of `figures`; 8, or 0

@@ -1,7 +1,8 @@
--- The lines of a listing that has ended are the listing of document 01: `whole`, `lists`. The last line comes alone behind the last entry: `ends`. A run from the fresh section is the log's: `from-fresh`. Eight stores, one behind the other, are eight figures at the front: `eight`.
+-- The lines of a listing that has ended are the listing of document 01: `whole`, `lists`. The last line comes alone behind the last entry: `ends`.
+-- A run from the fresh section is the log's: `from-fresh`. Eight stores, one behind the other, are eight figures at the front: `eight`.
 -- Assumes nothing.
 use Prim.Native.Nat.{_-_, _<_, _≤_, suc, zero, ℕ}
-use Rattle.host.specs.Answers.{Ends, Lists, behind, fits, linesIn, ranOf}
+use Rattle.host.specs.Answers.{Ends, Lists, fits, linesIn, ranOf}
 use Rattle.listing.proofs.Filling.{has-ended, no-room}
 use Rattle.listing.proofs.Whole.{blocks}
 use Rattle.listing.specs.Blocks.{block, none-left}
@@ -40,7 +41,11 @@ lists {log} {out} {after} {filled} b h f e = record { count = counted b known; l
     counted true known = rw known (f .count ∙ ap length (whole log (length out) h known))
     counted false known = rw known
 
--- a buffer that was filled once, from behind the last entry
+-- the listing behind the last entry of a run
+abbrev pub behind : List ℕ → Ran → Listing
+behind log r = record { section = r .section; at = length log; left = 0; entries = r .entries; accepted = r .accepted; ended = false }
+
+-- a buffer that was filled once, from there
 module _ (log : List ℕ) (r : Ran) where
   last-turn : nextTurn log (behind log r) ≡ (lastLine (behind log r) (length log), ended (behind log r))
   unfolding nextTurn

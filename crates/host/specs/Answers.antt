@@ -1,8 +1,8 @@
 -- What a host is answered, and what its buffers then hold, by the definitions of the listing and of the run.
-use Prim.Native.Nat.{_+_, _≤_, ℕ}
+use Prim.Native.Nat.{ℕ}
+use Rattle.listing.specs.Lines.{endLine, longLine}
 use Rattle.listing.specs.Listings.{listingOf}
-use Rattle.listing.specs.Turns.{begun, blockOf, lastLine}
-use Rattle.listing.specs.declared.turns.Listing.{Listing}
+use Rattle.listing.specs.Turns.{begun, blockOf}
 use Rattle.step.specs.Running.{ranOver, start}
 use Rattle.step.specs.declared.running.Last.{Last}
 use Rattle.step.specs.declared.running.Last.the-variants.{Answered, NoEntry}
@@ -15,7 +15,7 @@ use Rattle.working.specs.declared.Answer.{Answer}
 use Rattle.working.specs.declared.Answer.the-variants as answer
 use lib.Dec.{ltb}
 use lib.ListN.{length}
-use mathlib.Core.Bool.{Bool, cond, false, true}
+use mathlib.Core.Bool.{Bool, cond, true}
 use mathlib.Core.List.{List, [], _∷_}
 use mathlib.Core.Path.{_≡_}
 
@@ -40,12 +40,9 @@ pub record Lists (log out : List ℕ) (r : ℕ) (after : List ℕ) : Type 0 wher
 abbrev pub ranOf : List ℕ → Ran
 ranOf log = ranOver (start fresh) (runOf fresh log)
 
--- the listing behind the last entry of a run
-abbrev pub behind : List ℕ → Ran → Listing
-behind log r = record { section = r .section; at = length log; left = 0; entries = r .entries; accepted = r .accepted; ended = false }
-
+-- the last line of its listing
 abbrev pub endOf : List ℕ → List ℕ
-endOf log = lastLine (behind log (ranOf log)) (length log)
+endOf log = cond (ltb 65536 (length log)) longLine (endLine (ranOf log .entries) (ranOf log .accepted) (ranOf log .section))
 
 -- the last line and its length; or 0, and nothing altered, where there is no room for the longest
 pub record Ends (log out : List ℕ) (r : ℕ) (after : List ℕ) : Type 0 where

@@ -1,0 +1,176 @@
+//! Times the proved library and the second program on the same logs, in one
+//! process and in turns, and prints medians, their ratio, and the ratio
+//! of the fastest rounds, which other work on the machine disturbs least.
+
+use std::hint::black_box;
+use std::process::ExitCode;
+use std::time::{Duration, Instant};
+
+use second::generator::{log, Options};
+use second::Run;
+
+const USAGE: &str = "usage: bench [ROUNDS]";
+const LONGEST: usize = lupinshift::LONGEST_LOG;
+
+/// A log with its name and how often it is run in a round.
+struct Case {
+    name: &'static str,
+    log: Vec<u8>,
+    times: u32,
+}
+
+/// The same work by either program; a number that depends on the whole of it.
+type Work = fn(&[u8], &mut [u8]) -> u64;
+
+/// One job in both programs.
+struct Job {
+    name: &'static str,
+    proved: Work,
+    second: Work,
+}
+
+const JOBS: [Job; 2] = [
+    Job {
+        name: "run",
+        proved: proved_run,
+        second: second_run,
+    },
+    Job {
+        name: "listing",
+        proved: proved_listing,
+        second: second_listing,
+    },
+];
+
+fn main() -> ExitCode {
+    let mut words = std::env::args().skip(1);
+    let rounds = words.next().map_or(Some(31), |word| word.parse().ok());
+    let (Some(rounds @ 1..), None) = (rounds, words.next()) else {
+        eprintln!("{USAGE}");
+        return ExitCode::from(2);
+    };
+    println!(
+        "medians of {rounds} rounds in microseconds (from the fastest round to the upper quartile)"
+    );
+    println!(
+        "{:<22} {:<8} {:>26} {:>26} {:>7} {:>8}",
+        "log", "job", "proved", "second", "ratio", "fastest"
+    );
+    for case in cases() {
+        for job in &JOBS {
+            measure(&case, job, rounds);
+        }
+    }
+    ExitCode::SUCCESS
+}
+
+fn cases() -> [Case; 4] {
+    let plain = Options {
+        bytes: Some(LONGEST),
+        ..Options::default()
+    };
+    let accepted = Options {
+        accepted: true,
+        ..plain
+    };
+    let full = Options {
+        full: true,
+        ..plain
+    };
+    let short = Options {
+        bytes: None,
+        ..plain
+    };
+    [
+        Case {
+            name: "300 entries",
+            log: log(1, 300, short),
+            times: 100,
+        },
+        Case {
+            name: "65,536 accepted",
+            log: log(1, LONGEST, accepted),
+            times: 3,
+        },
+        Case {
+            name: "65,536 zero bytes",
+            log: vec![0; LONGEST],
+            times: 3,
+        },
+        Case {
+            name: "65,536 full section",
+            log: log(1, LONGEST, full),
+            times: 3,
+        },
+    ]
+}
+
+/// Times the job in turns, the first of a round changing from round to round.
+fn measure(case: &Case, job: &Job, rounds: usize) {
+    let mut out = vec![0; lupinshift::listing_room(LONGEST)];
+    assert_eq!(
+        (job.proved)(&case.log, &mut out),
+        (job.second)(&case.log, &mut out)
+    );
+    let mut times = [Vec::new(), Vec::new()];
+    for round in 0..2 * rounds {
+        let which = (round + round / 2) % 2;
+        let work = [job.proved, job.second][which];
+        let start = Instant::now();
+        for _ in 0..case.times {
+            black_box(work(black_box(&case.log), &mut out));
+        }
+        times[which].push(start.elapsed() / case.times);
+    }
+    let [proved, second] = times.map(summary);
+    let ratio = |at: usize| proved[at].as_secs_f64() / second[at].as_secs_f64();
+    println!(
+        "{:<22} {:<8} {:>26} {:>26} {:>7.2} {:>8.2}",
+        case.name,
+        job.name,
+        shown(proved),
+        shown(second),
+        ratio(1),
+        ratio(0)
+    );
+}
+
+/// The fastest round, the median and the upper quartile.
+fn summary(mut times: Vec<Duration>) -> [Duration; 3] {
+    times.sort();
+    [0, 2, 3].map(|quarter| times[quarter * (times.len() - 1) / 4])
+}
+
+fn shown(times: [Duration; 3]) -> String {
+    let [fastest, median, high] = times.map(|time| time.as_secs_f64() * 1e6);
+    format!("{median:.1} ({fastest:.1}-{high:.1})")
+}
+
+/// One number of the entries, the refused ones and the vehicles present.
+fn mixed(entries: u64, refused: u64, present: u64) -> u64 {
+    (entries << 32) + (refused << 8) + present
+}
+
+fn proved_run(log: &[u8], _: &mut [u8]) -> u64 {
+    let figures = lupinshift::figures(log);
+    mixed(figures[0], figures[2], figures[3])
+}
+
+fn second_run(log: &[u8], _: &mut [u8]) -> u64 {
+    let mut run = Run::new(log);
+    let entries = run.by_ref().count();
+    let section = run.section();
+    mixed(
+        entries as u64,
+        section.refused.into(),
+        section.present as u64,
+    )
+}
+
+fn proved_listing(log: &[u8], out: &mut [u8]) -> u64 {
+    lupinshift::list_into(log, out) as u64
+}
+
+fn second_listing(log: &[u8], _: &mut [u8]) -> u64 {
+    second::list(log).len() as u64
+}

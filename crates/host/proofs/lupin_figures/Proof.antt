@@ -1,0 +1,101 @@
+-- `host::lupin_figures` meets its contract: eight stores at the front of the figures lent, of what the run of the whole log comes to.
+-- Assumes nothing.
+use Prim.Native.Nat.{_≤_}
+use Rattle.host.proofs.Laws.{eight, from-fresh}
+use Rattle.host.proofs.lupin_figures.Statement.{statement}
+use Rattle.host.proofs.lupin_figures.Tie as tie
+use Rattle.host.specs.Answers.{figuresOf, ranOf}
+use Rattle.step.specs.declared.running.Ran.{Ran}
+use Rattle.working.specs.Entries.{pasted}
+use borrow.Author.Needs.{needs}
+use borrow.Author.Tests.{le-ltb, lt-ltb}
+use lib.ListN.{length, length-set}
+use mathlib.Core.Path.{_∙_, _≡_, ap}
+use native.Mathlib.Omega.{arith}
+
+returns : tie.Need-returns
+returns c = record { count = simp (lt-ltb _ _ (c .if1 .taken)); left = simp (lt-ltb _ _ (c .if1 .taken)) }
+
+fresh-requires : tie.Need-fresh-requires
+fresh-requires c κs = search needs
+
+run-requires : tie.Need-run-requires
+run-requires c κs = search needs
+
+slice-write-figures : tie.Need-slice-write-figures
+slice-write-figures c = search needs
+
+slice-write-figures-2 : tie.Need-slice-write-figures-2
+slice-write-figures-2 c = simp length-set (omega arith)
+
+cast-figures : tie.Need-cast-figures
+cast-figures c = search needs
+
+slice-write-figures-3 : tie.Need-slice-write-figures-3
+slice-write-figures-3 c = simp length-set (omega arith)
+
+slice-write-figures-4 : tie.Need-slice-write-figures-4
+slice-write-figures-4 c = simp length-set (omega arith)
+
+cast-figures-2 : tie.Need-cast-figures-2
+cast-figures-2 c = search needs
+
+slice-write-figures-5 : tie.Need-slice-write-figures-5
+slice-write-figures-5 c = simp length-set (omega arith)
+
+cast-figures-3 : tie.Need-cast-figures-3
+cast-figures-3 c = search needs
+
+slice-write-figures-6 : tie.Need-slice-write-figures-6
+slice-write-figures-6 c = simp length-set (omega arith)
+
+cast-figures-4 : tie.Need-cast-figures-4
+cast-figures-4 c = search needs
+
+slice-write-figures-7 : tie.Need-slice-write-figures-7
+slice-write-figures-7 c = simp length-set (omega arith)
+
+cast-figures-5 : tie.Need-cast-figures-5
+cast-figures-5 c = search needs
+
+slice-write-figures-8 : tie.Need-slice-write-figures-8
+slice-write-figures-8 c = simp length-set (omega arith)
+
+same-length : tie.Need-same-length
+same-length c = simp length-set (omega arith)
+
+returns-2 : tie.Need-returns-2
+returns-2 c =
+    let run = c .before .before .before .before .before .before .before .before in
+    let start = run .before .before .before .before .before in
+    let figures = start .args .figures .now in
+    let log = start .args .log .now in
+    let ran = run .run .result in
+    let s = ran .section in
+    let room : 8 ≤ length figures = run .before .before .if1 .left in
+    let known : ran ≡ ranOf log = from-fresh log (run .run .ensures) (run .before .fresh .ensures) in
+    let stored = eight figures (ran .entries) (ran .accepted) (s .refused) (s .len) (s .a .holds) (s .a .owes) (s .b .holds) (s .b .owes) room in
+    record { count = simp (le-ltb _ _ room); left = rw (le-ltb _ _ room) (stored ∙ ap (λ (r : Ran). pasted figures 0 (figuresOf r)) known) }
+
+pub lupin-figures-spec : {M : Type 1} → statement M
+lupin-figures-spec =
+    tie.close
+    (tie.spec
+    returns
+    fresh-requires
+    run-requires
+    slice-write-figures
+    slice-write-figures-2
+    cast-figures
+    slice-write-figures-3
+    slice-write-figures-4
+    cast-figures-2
+    slice-write-figures-5
+    cast-figures-3
+    slice-write-figures-6
+    cast-figures-4
+    slice-write-figures-7
+    cast-figures-5
+    slice-write-figures-8
+    same-length
+    returns-2)

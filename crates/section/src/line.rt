@@ -1,68 +1,99 @@
-// The vehicles present, the first `len` of the 24 places: one enters or leaves at a station's end, and two meet. Behind them every place is left unused,
-// whatever stood there, so that each function is equal to its definition on any section.
-ghost use mathlib.Core.Path.{_≡_};
-ghost use Prim.Native.Nat.{_-_, _≤_};
-ghost use lib.ListN.{take};
-ghost use Rattle.working.specs.Sections.{padTo, insertAt, lineOf, nearestAt, removeAt, withLine};
+// The vehicles present, the first `len` of the 24 places, in lent words: one enters or leaves at a station's end, and two meet. Behind them every place is
+// left unused, whatever stood there, so that each function is equal to its definition on any section.
+ghost use Prim.Native.Nat.{_-_, _≤_, min};
+ghost use Rattle.section.specs.Words.{sectionIn, vehicleIn, vehiclesIn};
+ghost use Rattle.working.specs.Reasons.{findOf, mayMeet};
+ghost use Rattle.working.specs.Sections.{emptied, insertAt, lineOf, nearestAt, padTo, removeAt, withLine};
 ghost use Rattle.working.specs.Steps.{metAt, turnAt, turned};
-use crate::places::inserted_first;
-use crate::places::removed_first;
-use crate::places::with_vehicle_at;
-use crate::places::within_places;
+ghost use lib.ListN.{drop, getD, set, take};
+ghost use mathlib.Core.Bool.{cond};
+ghost use mathlib.Core.List.{_∷_};
+ghost use mathlib.Core.Path.{_≡_};
+use crate::figures::FORCE;
+use crate::figures::LEN;
+use crate::figures::put_desk;
 use crate::stations::station_number;
+use crate::vehicles::is_named;
+use crate::vehicles::is_opener;
+use crate::words::vehicle_in;
+use crate::words::vehicle_word;
+use crate::words::word_if;
+use working::Desk;
 use working::Section;
 use working::Station;
 use working::Vehicle;
 
-// The places with every one from `from` on unused.
-pub(crate) fn blanked(places: [Vehicle; 24], from: usize) -> [Vehicle; 24]
-    ensures { λ r. ⌜ r ≡ padTo 24 (take from places) ⌝ }
+// As many vehicles as there are places for.
+fn present_in(figures: &[u64; 21]) -> usize
+    ensures { λ r. ⌜ r ≡ min (getD (now (figures .entry)) 0 0) 24 ⌝ }
 {
-    let none = Vehicle::unused();
-    let mut after = places;
+    let len = figures[LEN] as usize;
+    if len < Section::PLACES {
+        len
+    } else {
+        Section::PLACES
+    }
+}
+
+// Every place from `from` on is made unused.
+fn blank(line: &mut [u64; 24], from: usize)
+    ensures { λ _. ⌜ vehiclesIn (now (line .exit)) ≡ padTo 24 (take from (vehiclesIn (now (line .entry)))) ⌝ }
+{
     let mut i = from;
     while i < Section::PLACES {
-        after[i] = none;
+        line[i] = 0;
         i += 1;
     }
-    after
 }
 
-// The vehicle nearest a station, or the unused place where there is none.
-pub fn nearest(s: Section, at: Station) -> Vehicle
-    ensures { λ r. ⌜ r ≡ nearestAt at (lineOf s) ⌝ }
+// A vehicle stands nearest A, and every other one place on towards B.
+fn put_first(line: &mut [u64; 24], word: u64)
+    ensures { λ _. ⌜ vehiclesIn (now (line .exit)) ≡ padTo 24 (vehicleIn word ∷ vehiclesIn (now (line .entry))) ⌝ }
 {
-    let places = s.vehicles;
-    let present = within_places(s.len);
-    if present == 0 {
-        return Vehicle::unused();
-    }
-    match at {
-        Station::A => places[0],
-        Station::B => places[present - 1],
+    let mut next = word;
+    let mut i: usize = 0;
+    while i < Section::PLACES {
+        let here = line[i];
+        line[i] = next;
+        next = here;
+        i += 1;
     }
 }
 
-// The section with one more vehicle, at a station's end.
-pub fn with_inserted(s: Section, at: Station, v: Vehicle) -> Section
-    ensures { λ r. ⌜ r ≡ withLine s (insertAt at v (lineOf s)) ⌝ }
+// The vehicle nearest A is gone, and every other one place on towards A.
+fn drop_first(line: &mut [u64; 24])
+    ensures { λ _. ⌜ vehiclesIn (now (line .exit)) ≡ padTo 24 (drop 1 (vehiclesIn (now (line .entry)))) ⌝ }
 {
-    let places = s.vehicles;
-    let present = within_places(s.len);
-    let line = blanked(places, present);
-    let mut after = s;
-    after.len = present + 1;
+    let mut next = 0;
+    let mut i = Section::PLACES;
+    while 0 < i {
+        i -= 1;
+        let here = line[i];
+        line[i] = next;
+        next = here;
+    }
+}
+
+// A vehicle stands at place `i`; past the end nothing is stored.
+fn put_at(line: &mut [u64; 24], i: usize, word: u64)
+    ensures { λ _. ⌜ vehiclesIn (now (line .exit)) ≡ set (vehiclesIn (now (line .entry))) i (vehicleIn word) ⌝ }
+{
+    if i < Section::PLACES {
+        line[i] = word;
+    }
+}
+
+// One more vehicle, at a station's end.
+pub fn insert(line: &mut [u64; 24], figures: &mut [u64; 21], at: Station, v: Vehicle)
+    ensures { λ _. ⌜ (let s = sectionIn (now (line .entry)) (now (figures .entry)) in sectionIn (now (line .exit)) (now (figures .exit)) ≡ withLine s (insertAt at v (lineOf s))) ⌝ }
+{
+    let present = present_in(figures);
+    let word = vehicle_word(v);
+    figures[LEN] = (present + 1) as u64;
+    blank(line, present);
     match at {
-        Station::A => {
-            let moved = inserted_first(line, v);
-            after.vehicles = moved;
-            after
-        }
-        Station::B => {
-            let moved = with_vehicle_at(line, present, v);
-            after.vehicles = moved;
-            after
-        }
+        Station::A => put_first(line, word),
+        Station::B => put_at(line, present, word),
     }
 }
 
@@ -73,28 +104,74 @@ fn fewer(n: usize) -> usize
     if 0 < n { n - 1 } else { 0 }
 }
 
-// The section without the vehicle at a station's end.
-pub fn with_removed(s: Section, at: Station) -> Section
-    ensures { λ r. ⌜ r ≡ withLine s (removeAt at (lineOf s)) ⌝ }
+// The vehicle at a station's end is gone.
+pub fn remove(line: &mut [u64; 24], figures: &mut [u64; 21], at: Station)
+    ensures { λ _. ⌜ (let s = sectionIn (now (line .entry)) (now (figures .entry)) in sectionIn (now (line .exit)) (now (figures .exit)) ≡ withLine s (removeAt at (lineOf s))) ⌝ }
 {
-    let places = s.vehicles;
-    let present = within_places(s.len);
+    let present = present_in(figures);
     let left = fewer(present);
-    let mut after = s;
-    after.len = left;
+    figures[LEN] = left as u64;
     match at {
         Station::A => {
-            let line = blanked(places, present);
-            let moved = removed_first(line);
-            after.vehicles = moved;
-            after
+            blank(line, present);
+            drop_first(line)
         }
-        Station::B => {
-            let line = blanked(places, left);
-            after.vehicles = line;
-            after
-        }
+        Station::B => blank(line, left),
     }
+}
+
+// The vehicle nearest a station, or the unused place where there is none.
+pub fn nearest(line: &[u64; 24], figures: &[u64; 21], at: Station) -> Vehicle
+    ensures { λ r. ⌜ r ≡ nearestAt at (lineOf (sectionIn (now (line .entry)) (now (figures .entry)))) ⌝ }
+{
+    let present = present_in(figures);
+    if present == 0 {
+        return Vehicle::unused();
+    }
+    match at {
+        Station::A => vehicle_in(line[0]),
+        Station::B => vehicle_in(line[present - 1]),
+    }
+}
+
+// `i` where `found`, else `later`: the place that a search from B's end has found so far.
+fn place_if(found: bool, i: usize, later: usize) -> usize
+    ensures { λ r. ⌜ r ≡ cond found i later ⌝ }
+{
+    if found { i } else { later }
+}
+
+// The place of the vehicle named, nearest A first, or the length of the line where it is not present.
+pub fn find(line: &[u64; 24], figures: &[u64; 21], sender: Station, form: u16) -> usize
+    ensures { λ r. ⌜ r ≡ findOf sender form (lineOf (sectionIn (now (line .entry)) (now (figures .entry)))) ⌝ }
+{
+    let present = present_in(figures);
+    let mut found = present;
+    let mut i = present;
+    while 0 < i {
+        i -= 1;
+        found = place_if(is_named(sender, form, vehicle_in(line[i])), i, found);
+    }
+    found
+}
+
+// Whether the vehicle at place `i` and its neighbour towards B may meet: both present, OPEN or THROUGH, and heading towards one another.
+pub fn may_meet(line: &[u64; 24], figures: &[u64; 21], i: usize) -> bool
+    ensures { λ r. ⌜ r ≡ mayMeet (lineOf (sectionIn (now (line .entry)) (now (figures .entry)))) i ⌝ }
+{
+    let present = present_in(figures);
+    if present <= i {
+        return false;
+    }
+    let next = i + 1;
+    if present <= next {
+        return false;
+    }
+    let v = vehicle_in(line[i]);
+    let w = vehicle_in(line[next]);
+    let left_on = v.movement;
+    let other_left_on = w.movement;
+    (v.heading == 2) & (w.heading == 1) & is_opener(left_on) & is_opener(other_left_on)
 }
 
 // A vehicle that has met another, now heading to a station.
@@ -107,33 +184,39 @@ fn turned(v: Vehicle, to: Station) -> Vehicle
     after
 }
 
-// The places with the vehicle at place `i`, where it is one of the first `len`, turned.
-fn with_turned(places: [Vehicle; 24], len: usize, i: usize, to: Station) -> [Vehicle; 24]
+// The vehicle at place `i`, where it is one of the first `len`, is turned.
+fn turn(line: &mut [u64; 24], len: usize, i: usize, to: Station)
     requires { ⌜ len ≤ 24 ⌝ }
-    ensures { λ r. ⌜ r ≡ padTo 24 (turnAt to i (take len places)) ⌝ }
+    ensures { λ _. ⌜ vehiclesIn (now (line .exit)) ≡ padTo 24 (turnAt to i (take len (vehiclesIn (now (line .entry))))) ⌝ }
 {
-    let line = blanked(places, len);
+    blank(line, len);
     if i < len {
-        return with_vehicle_at(line, i, turned(places[i], to));
+        let v = turned(vehicle_in(line[i]), to);
+        line[i] = vehicle_word(v);
     }
-    line
 }
 
-// The section with the vehicle at place `i` and its neighbour towards B met, and both heading to a station.
-pub fn with_met(s: Section, to: Station, i: usize) -> Section
-    ensures { λ r. ⌜ r ≡ withLine s (metAt to i (lineOf s)) ⌝ }
+// The vehicle at place `i` and its neighbour towards B have met, and both head to a station.
+pub fn meet(line: &mut [u64; 24], figures: &mut [u64; 21], to: Station, i: usize)
+    ensures { λ _. ⌜ (let s = sectionIn (now (line .entry)) (now (figures .entry)) in sectionIn (now (line .exit)) (now (figures .exit)) ≡ withLine s (metAt to i (lineOf s))) ⌝ }
 {
-    let places = s.vehicles;
-    let present = within_places(s.len);
-    let mut after = s;
-    after.len = present;
+    let present = present_in(figures);
+    figures[LEN] = present as u64;
     if present <= i {
-        let line = blanked(places, present);
-        after.vehicles = line;
-        return after;
+        blank(line, present);
+        return;
     }
-    let first = with_turned(places, present, i, to);
-    let both = with_turned(first, present, i + 1, to);
-    after.vehicles = both;
-    after
+    turn(line, present, i, to);
+    turn(line, present, i + 1, to);
+}
+
+// No vehicle is present, and both desks are as fresh; in force or not.
+pub fn empty(line: &mut [u64; 24], figures: &mut [u64; 21], force: bool)
+    ensures { λ _. ⌜ sectionIn (now (line .exit)) (now (figures .exit)) ≡ emptied force (sectionIn (now (line .entry)) (now (figures .entry)) .refused) ⌝ }
+{
+    blank(line, 0);
+    figures[LEN] = 0;
+    figures[FORCE] = word_if(force);
+    put_desk(figures, Station::A, Desk::fresh());
+    put_desk(figures, Station::B, Desk::fresh());
 }

@@ -2,6 +2,7 @@
 ghost use Prim.Native.Nat.{_≤_, ℕ};
 ghost use Rattle.section.specs.Words.{firstOf, intervalIn, intervalWord, oneMore, sectionIn};
 ghost use Rattle.working.specs.Sections.{countRefusal, deskOf, withDesk};
+ghost use lib.Dec.{ltb};
 ghost use mathlib.Core.List.{List};
 ghost use mathlib.Core.Path.{_≡_};
 use crate::words::word_if;
@@ -92,4 +93,18 @@ pub fn count_refusal(figures: &mut [u64; 21])
 {
     let count = (figures[REFUSED] % 4294967296) as u32;
     figures[REFUSED] = one_more(count) as u64;
+}
+
+// Whether the working is in force.
+pub fn in_force(figures: &[u64; 21]) -> bool
+    ensures { λ r. ⌜ ((l : List ℕ) → r ≡ sectionIn l (now (figures .entry)) .force) ⌝ }
+{
+    figures[FORCE] == 1
+}
+
+// Whether a vehicle is present.
+pub fn any_present(figures: &[u64; 21]) -> bool
+    ensures { λ r. ⌜ ((l : List ℕ) → r ≡ ltb 0 (sectionIn l (now (figures .entry)) .len)) ⌝ }
+{
+    0 < figures[LEN]
 }

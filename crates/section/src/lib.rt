@@ -8,8 +8,10 @@ mod stations;
 mod vehicles;
 mod words;
 
+pub use figures::any_present;
 pub use figures::count_refusal;
 pub use figures::desk;
+pub use figures::in_force;
 pub use figures::put_desk;
 pub use kept::figure_words;
 pub use kept::line_words;

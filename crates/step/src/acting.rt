@@ -1,57 +1,61 @@
-// What an event does to a section and what is answered: a station's act at its own end, and BEGIN, MEET and RESUME.
-ghost use mathlib.Core.Path.{_≡_};
+// What an event does to a section in lent words and what is answered: a station's act at its own end, and BEGIN, MEET and RESUME.
+ghost use Prim.Native.Nat.{ℕ};
+ghost use Rattle.section.specs.Words.{sectionIn};
+ghost use Rattle.step.specs.Words.{Leaves, LeavesIn};
+ghost use Rattle.working.specs.Events.{decodedAs};
+ghost use Rattle.working.specs.Steps.{doneBy, entered, onDecoded, refused};
+ghost use Rattle.working.specs.declared.Answer.the-variants.{Accepted};
 ghost use Rattle.working.specs.declared.Event.the-variants.{At, Begin, Meet, Resume};
-ghost use Rattle.working.specs.Steps.{accepted, doneBy, entered, refused};
+ghost use Rattle.working.specs.declared.Speed.the-variants.{NoSpeed};
+ghost use mathlib.Core.List.{List};
+ghost use mathlib.Core.Path.{_≡_};
+use crate::events::event_of;
+use section::any_present;
 use section::count_refusal;
 use section::desk;
-use section::emptied;
+use section::empty;
 use section::find;
+use section::in_force;
+use section::insert;
 use section::may_meet;
+use section::meet;
 use section::nearest;
-use section::with_desk;
-use section::with_inserted;
-use section::with_met;
-use section::with_removed;
+use section::put_desk;
+use section::remove;
 use working::Act;
 use working::Answer;
 use working::Event;
 use working::Plan;
+use working::Read;
 use working::Refusal;
-use working::Section;
 use working::Speed;
 use working::Station;
-use working::Stepped;
 
 // A refusal: one more in the count, and nothing else altered.
-pub(crate) fn refused(s: Section, why: Refusal) -> Stepped
-    ensures { λ r. ⌜ r ≡ refused s why ⌝ }
+fn refuse(figures: &mut [u64; 21], why: Refusal) -> Answer
+    ensures { λ r. ⌜ ((l : List ℕ) → Leaves (refused (sectionIn l (now (figures .entry))) why) r (sectionIn l (now (figures .exit)))) ⌝ }
 {
-    Stepped {
-        answer: Answer::Refused(why),
-        section: count_refusal(s),
-    }
+    count_refusal(figures);
+    Answer::Refused(why)
 }
 
 // Accepted with no form, no forms and no speed.
-fn accepted(s: Section) -> Stepped
-    ensures { λ r. ⌜ r ≡ accepted s ⌝ }
+fn accepted() -> Answer
+    ensures { λ r. ⌜ r ≡ Accepted 0 0 NoSpeed ⌝ }
 {
-    Stepped {
-        answer: Answer::Accepted {
-            form: 0,
-            forms: 0,
-            speed: Speed::NoSpeed,
-        },
-        section: s,
+    Answer::Accepted {
+        form: 0,
+        forms: 0,
+        speed: Speed::NoSpeed,
     }
 }
 
 // The plan's effect: the station's desk replaced, and a vehicle put in or taken out at its end.
-fn done_by(s: Section, at: Station, plan: Plan) -> Stepped
-    ensures { λ r. ⌜ r ≡ doneBy s at plan ⌝ }
+fn act_by(line: &mut [u64; 24], figures: &mut [u64; 21], at: Station, plan: Plan) -> Answer
+    ensures { λ r. ⌜ LeavesIn (now (line .entry)) (now (figures .entry)) (λ s. doneBy s at plan) r (now (line .exit)) (now (figures .exit)) ⌝ }
 {
     match plan {
-        Plan::Refuse(why) => refused(s, why),
+        Plan::Refuse(why) => refuse(figures, why),
         Plan::Depart {
             desk,
             movement,
@@ -60,81 +64,99 @@ fn done_by(s: Section, at: Station, plan: Plan) -> Stepped
             speed,
         } => {
             let v = rules::vehicle_for(at, desk.last, movement, class);
-            let line = with_inserted(s, at, v);
-            Stepped {
-                answer: Answer::Accepted {
-                    form: desk.last,
-                    forms: forms,
-                    speed: speed,
-                },
-                section: with_desk(line, at, desk),
+            insert(line, figures, at, v);
+            put_desk(figures, at, desk);
+            Answer::Accepted {
+                form: desk.last,
+                forms: forms,
+                speed: speed,
             }
         }
         Plan::Arrive { desk } => {
-            let line = with_removed(s, at);
-            accepted(with_desk(line, at, desk))
+            remove(line, figures, at);
+            put_desk(figures, at, desk);
+            accepted()
         }
     }
 }
 
-fn begin(s: Section) -> Stepped
-    ensures { λ r. ⌜ r ≡ entered s Begin ⌝ }
+fn begin(line: &mut [u64; 24], figures: &mut [u64; 21]) -> Answer
+    ensures { λ r. ⌜ LeavesIn (now (line .entry)) (now (figures .entry)) (λ s. entered s Begin) r (now (line .exit)) (now (figures .exit)) ⌝ }
 {
-    if s.force {
-        return refused(s, Refusal::AlreadyInForce);
+    if in_force(figures) {
+        return refuse(figures, Refusal::AlreadyInForce);
     }
-    accepted(emptied(true, s.refused))
+    empty(line, figures, true);
+    accepted()
 }
 
-fn resume(s: Section) -> Stepped
-    ensures { λ r. ⌜ r ≡ entered s Resume ⌝ }
+fn resume(line: &mut [u64; 24], figures: &mut [u64; 21]) -> Answer
+    ensures { λ r. ⌜ LeavesIn (now (line .entry)) (now (figures .entry)) (λ s. entered s Resume) r (now (line .exit)) (now (figures .exit)) ⌝ }
 {
-    if !s.force {
-        return refused(s, Refusal::NotInForce);
+    if !in_force(figures) {
+        return refuse(figures, Refusal::NotInForce);
     }
-    if 0 < s.len {
-        return refused(s, Refusal::VehiclePresent);
+    if any_present(figures) {
+        return refuse(figures, Refusal::VehiclePresent);
     }
-    accepted(emptied(false, s.refused))
+    empty(line, figures, false);
+    accepted()
 }
 
-fn meet(s: Section, to: Station, sender: Station, form: u16) -> Stepped
-    ensures { λ r. ⌜ r ≡ entered s (Meet to sender form) ⌝ }
+fn meet_at(
+    line: &mut [u64; 24],
+    figures: &mut [u64; 21],
+    to: Station,
+    sender: Station,
+    form: u16,
+) -> Answer
+    ensures { λ r. ⌜ LeavesIn (now (line .entry)) (now (figures .entry)) (λ s. entered s (Meet to sender form)) r (now (line .exit)) (now (figures .exit)) ⌝ }
 {
-    if !s.force {
-        return refused(s, Refusal::NotInForce);
+    if !in_force(figures) {
+        return refuse(figures, Refusal::NotInForce);
     }
-    let places = s.vehicles;
-    let len = s.len;
-    let i = find(places, len, sender, form);
-    if !may_meet(places, len, i) {
-        return refused(s, Refusal::MayNotMeet);
+    let i = find(line, figures, sender, form);
+    if !may_meet(line, figures, i) {
+        return refuse(figures, Refusal::MayNotMeet);
     }
-    accepted(with_met(s, to, i))
+    meet(line, figures, to, i);
+    accepted()
 }
 
 // A station's act: decided from its own desk and the vehicle nearest it.
-fn act_at(s: Section, at: Station, time: u16, act: Act) -> Stepped
-    ensures { λ r. ⌜ r ≡ entered s (At at time act) ⌝ }
+fn act_at(line: &mut [u64; 24], figures: &mut [u64; 21], at: Station, time: u16, act: Act) -> Answer
+    ensures { λ r. ⌜ LeavesIn (now (line .entry)) (now (figures .entry)) (λ s. entered s (At at time act)) r (now (line .exit)) (now (figures .exit)) ⌝ }
 {
-    let d = desk(s, at);
-    let v = nearest(s, at);
-    let plan = rules::plan(act, at, s.force, d, time, v);
-    done_by(s, at, plan)
+    let d = desk(figures, at);
+    let v = nearest(line, figures, at);
+    let plan = rules::plan(act, at, in_force(figures), d, time, v);
+    act_by(line, figures, at, plan)
 }
 
-// The event's answer and the section after it. Whether the section is well made is not looked at here.
-pub fn enter(s: Section, event: Event) -> Stepped
-    ensures { λ r. ⌜ r ≡ entered s event ⌝ }
+// The event's answer; the section after it is left in the words. Whether the section is well made is not looked at here.
+pub fn enter_in(line: &mut [u64; 24], figures: &mut [u64; 21], event: Event) -> Answer
+    ensures { λ r. ⌜ LeavesIn (now (line .entry)) (now (figures .entry)) (λ s. entered s event) r (now (line .exit)) (now (figures .exit)) ⌝ }
 {
     match event {
-        Event::Begin => begin(s),
-        Event::At { station, time, act } => act_at(s, station, time, act),
+        Event::Begin => begin(line, figures),
+        Event::At { station, time, act } => act_at(line, figures, station, time, act),
         Event::Meet {
             station,
             sender,
             form,
-        } => meet(s, station, sender, form),
-        Event::Resume => resume(s),
+        } => meet_at(line, figures, station, sender, form),
+        Event::Resume => resume(line, figures),
+    }
+}
+
+// The answer to what was read at some place; the section after it is left in the words: for those who read a log themselves and print or count as they go, from a
+// well-made section. No bytes give 1. The section is not tested here; a step keeps a well-made section well made.
+pub fn answer_in(line: &mut [u64; 24], figures: &mut [u64; 21], read: Read) -> Answer
+    ensures { λ r. ⌜ LeavesIn (now (line .entry)) (now (figures .entry)) (λ s. onDecoded s (decodedAs read)) r (now (line .exit)) (now (figures .exit)) ⌝ }
+{
+    match read {
+        Read::End => refuse(figures, Refusal::EndsInside),
+        Read::Whole(e, _) => enter_in(line, figures, event_of(e)),
+        Read::Refused(why, _) => refuse(figures, why),
     }
 }

@@ -5,7 +5,8 @@ mod memory;
 mod running;
 mod stepping;
 
-pub use acting::enter;
+pub use acting::answer_in;
+pub use acting::enter_in;
 pub use events::event_of;
 pub use memory::step_in;
 pub use memory::step_via;

@@ -7,8 +7,8 @@ use Rattle.working.specs.declared.Stepped.{Stepped}
 use mathlib.Core.List.{List}
 use mathlib.Core.Path.{_≡_}
 
-pub record Leaves (after : Stepped) (answer : Answer) (s : Section) : Type 0 where
-  pub answer : answer ≡ after .answer
+pub record Leaves (after : Stepped) (given : Answer) (s : Section) : Type 0 where
+  pub answer : given ≡ after .answer
   pub section : s ≡ after .section
 
 -- the same of the section that two arrays of words hold before and after

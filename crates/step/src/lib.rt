@@ -12,6 +12,7 @@ pub use memory::step_in;
 pub use memory::step_via;
 pub use running::Last;
 pub use running::Ran;
+pub use running::moved_on;
 pub use running::run;
 pub use stepping::answered;
 pub use stepping::step;

@@ -11,16 +11,31 @@ desk-requires c κs = search needs
 nearest-requires : tie.Need-nearest-requires
 nearest-requires c κs = search needs
 
+in-force-requires : tie.Need-in-force-requires
+in-force-requires c κs = search needs
+
 plan-requires : tie.Need-plan-requires
 plan-requires c κs = search needs
 
-done-by-requires : tie.Need-done-by-requires
-done-by-requires c κs = search needs
+act-by-requires : tie.Need-act-by-requires
+act-by-requires c κs = search needs
 
 returns : tie.Need-returns
 unfolding entered
-returns c = rw (c .done-by .ensures, c .before .plan .ensures, c .before .before .nearest .ensures, c .before .before .before .desk .ensures)
+returns c =
+    let at-plan = c .before .before .before in
+    let at-nearest = at-plan .before .before .before in
+    let at-desk = at-nearest .before .before .before in
+    let line = at-desk .before .before .args .line .now in
+    rw (at-plan .plan .ensures, at-plan .before .in-force .ensures line, at-nearest .nearest .ensures, at-desk .desk .ensures line) at (c .act-by .ensures)
 
 pub act-at-spec : {M : Type 1} → statement M
 act-at-spec =
-    tie.close (tie.spec desk-requires nearest-requires plan-requires done-by-requires returns)
+    tie.close
+    (tie.spec
+    desk-requires
+    nearest-requires
+    in-force-requires
+    plan-requires
+    act-by-requires
+    returns)

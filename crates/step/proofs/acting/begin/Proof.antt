@@ -3,25 +3,31 @@
 use Rattle.step.proofs.Scans.{first-test, next-test}
 use Rattle.step.proofs.acting.begin.Statement.{statement}
 use Rattle.step.proofs.acting.begin.Tie as tie
+use Rattle.section.specs.Words.{sectionIn}
 use Rattle.working.specs.Sections.{emptied}
-use Rattle.working.specs.Steps.{accepted, entered}
+use Rattle.working.specs.Steps.{entered}
 use Rattle.working.specs.declared.Refusal.the-variants.{AlreadyInForce}
 use borrow.Author.Needs.{needs}
 use mathlib.Core.Bool.{true}
 use mathlib.Core.List.{[]}
-use mathlib.Core.Path.{_∙_, ap, sym}
+use mathlib.Core.Path.{_∙_, sym}
 
-refused-requires : tie.Need-refused-requires
-refused-requires c κs = search needs
+in-force-requires : tie.Need-in-force-requires
+in-force-requires c κs = search needs
+
+refuse-requires : tie.Need-refuse-requires
+refuse-requires c κs = search needs
 
 returns : tie.Need-returns
 unfolding entered
 returns c =
-    let s = c .before .before .args .s in
-    c .refused .ensures ∙ sym (first-test s (emptied true (s .refused)) AlreadyInForce [] (c .before .if1 .taken))
+    let at-test = c .before .before in
+    let a = at-test .before .before .before .args in
+    let s = sectionIn (a .line .now) (a .figures .now) in
+    first-test s (emptied true (s .refused)) AlreadyInForce [] (sym (at-test .before .in-force .ensures (a .line .now)) ∙ at-test .if1 .taken) (c .refuse .ensures (a .line .now))
 
-emptied-requires : tie.Need-emptied-requires
-emptied-requires c κs = search needs
+empty-requires : tie.Need-empty-requires
+empty-requires c κs = search needs
 
 accepted-requires : tie.Need-accepted-requires
 accepted-requires c κs = search needs
@@ -29,9 +35,13 @@ accepted-requires c κs = search needs
 returns-2 : tie.Need-returns-2
 unfolding entered
 returns-2 c =
-    let s = c .before .before .before .args .s in
-    c .accepted .ensures ∙ ap accepted (c .before .emptied .ensures) ∙ sym (next-test s (emptied true (s .refused)) AlreadyInForce [] (c .before .before .if1 .left))
+    let at-test = c .before .before .before .before in
+    let a = at-test .before .before .before .args in
+    let s = sectionIn (a .line .now) (a .figures .now) in
+    next-test s (emptied true (s .refused)) AlreadyInForce [] (sym (at-test .before .in-force .ensures (a .line .now)) ∙ at-test .if1 .left)
+    (record { answer = c .accepted .ensures; section = c .before .empty .ensures })
 
 pub begin-spec : {M : Type 1} → statement M
 begin-spec =
-    tie.close (tie.spec refused-requires returns emptied-requires accepted-requires returns-2)
+    tie.close
+    (tie.spec in-force-requires refuse-requires returns empty-requires accepted-requires returns-2)

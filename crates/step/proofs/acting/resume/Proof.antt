@@ -1,17 +1,17 @@
--- `step::acting::resume` meets its contract: 7, then 8.
+-- `step::acting::resume` meets its contract: 7, then 21 by the length of the line.
 -- Assumes nothing.
 use Rattle.step.proofs.Scans.{first-test, next-test}
 use Rattle.step.proofs.acting.resume.Statement.{statement}
 use Rattle.step.proofs.acting.resume.Tie as tie
+use Rattle.section.specs.Words.{sectionIn}
 use Rattle.working.specs.Sections.{emptied}
-use Rattle.working.specs.Steps.{accepted, entered}
-use Rattle.working.specs.declared.Refusal.{Refusal}
+use Rattle.working.specs.Steps.{entered}
 use Rattle.working.specs.declared.Refusal.the-variants.{NotInForce, VehiclePresent}
+use Rattle.working.specs.declared.Refusal.{Refusal}
 use Rattle.working.specs.declared.Section.{Section}
 use borrow.Author.Needs.{needs}
-use borrow.Author.Tests.{le-ltb, lt-ltb, not-false, not-true}
 use lib.Dec.{ltb}
-use mathlib.Core.Bool.{Bool, false}
+use mathlib.Core.Bool.{Bool, false, not}
 use mathlib.Core.List.{List, [], _∷_}
 use mathlib.Core.Path.{_∙_, ap, sym}
 
@@ -19,27 +19,38 @@ use mathlib.Core.Path.{_∙_, ap, sym}
 abbrev after : Section → List (Bool × Refusal)
 after s = (ltb 0 (s .len), VehiclePresent) ∷ []
 
-refused-requires : tie.Need-refused-requires
-refused-requires c κs = search needs
+in-force-requires : tie.Need-in-force-requires
+in-force-requires c κs = search needs
+
+refuse-requires : tie.Need-refuse-requires
+refuse-requires c κs = search needs
 
 returns : tie.Need-returns
 unfolding entered
 returns c =
-    let s = c .before .before .before .args .s in
-    c .refused .ensures ∙ sym (first-test s (emptied false (s .refused)) NotInForce (after s) (c .before .if1 .taken))
+    let at-force = c .before .before in
+    let a = at-force .before .before .before .args in
+    let s = sectionIn (a .line .now) (a .figures .now) in
+    first-test s (emptied false (s .refused)) NotInForce (after s) (sym (ap not (at-force .before .in-force .ensures (a .line .now))) ∙ at-force .if1 .taken) (c .refuse .ensures (a .line .now))
 
-refused-requires-2 : tie.Need-refused-requires-2
-refused-requires-2 c κs = search needs
+any-present-requires : tie.Need-any-present-requires
+any-present-requires c κs = search needs
+
+refuse-requires-2 : tie.Need-refuse-requires-2
+refuse-requires-2 c κs = search needs
 
 returns-2 : tie.Need-returns-2
 unfolding entered
 returns-2 c =
-    let s = c .before .before .before .before .before .args .s in
-    c .refused2 .ensures
-    ∙ sym (next-test s (emptied false (s .refused)) NotInForce (after s) (c .before .before .before .if1 .left) ∙ first-test s (emptied false (s .refused)) VehiclePresent [] (lt-ltb 0 (s .len) (c .before .if2 .taken)))
+    let at-present = c .before .before in
+    let at-force = at-present .before .before .before in
+    let a = at-force .before .before .before .args in
+    let s = sectionIn (a .line .now) (a .figures .now) in
+    next-test s (emptied false (s .refused)) NotInForce (after s) (sym (ap not (at-force .before .in-force .ensures (a .line .now))) ∙ at-force .if1 .left)
+    (first-test s (emptied false (s .refused)) VehiclePresent [] (sym (at-present .before .any-present .ensures (a .line .now)) ∙ at-present .if2 .taken) (c .refuse2 .ensures (a .line .now)))
 
-emptied-requires : tie.Need-emptied-requires
-emptied-requires c κs = search needs
+empty-requires : tie.Need-empty-requires
+empty-requires c κs = search needs
 
 accepted-requires : tie.Need-accepted-requires
 accepted-requires c κs = search needs
@@ -47,18 +58,24 @@ accepted-requires c κs = search needs
 returns-3 : tie.Need-returns-3
 unfolding entered
 returns-3 c =
-    let s = c .before .before .before .before .before .before .args .s in
-    c .accepted .ensures ∙ ap accepted (c .before .emptied .ensures)
-    ∙ sym (next-test s (emptied false (s .refused)) NotInForce (after s) (c .before .before .before .before .if1 .left) ∙ next-test s (emptied false (s .refused)) VehiclePresent [] (le-ltb 0 (s .len) (c .before .before .if2 .left)))
+    let at-present = c .before .before .before .before in
+    let at-force = at-present .before .before .before in
+    let a = at-force .before .before .before .args in
+    let s = sectionIn (a .line .now) (a .figures .now) in
+    next-test s (emptied false (s .refused)) NotInForce (after s) (sym (ap not (at-force .before .in-force .ensures (a .line .now))) ∙ at-force .if1 .left)
+    (next-test s (emptied false (s .refused)) VehiclePresent [] (sym (at-present .before .any-present .ensures (a .line .now)) ∙ at-present .if2 .left)
+    (record { answer = c .accepted .ensures; section = c .before .empty .ensures }))
 
 pub resume-spec : {M : Type 1} → statement M
 resume-spec =
     tie.close
     (tie.spec
-    refused-requires
+    in-force-requires
+    refuse-requires
     returns
-    refused-requires-2
+    any-present-requires
+    refuse-requires-2
     returns-2
-    emptied-requires
+    empty-requires
     accepted-requires
     returns-3)

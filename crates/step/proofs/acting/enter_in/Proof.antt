@@ -1,7 +1,7 @@
--- `step::acting::enter` meets its contract: each event has its function.
+-- `step::acting::enter_in` meets its contract: each event has its function.
 -- Assumes nothing.
-use Rattle.step.proofs.acting.enter.Statement.{statement}
-use Rattle.step.proofs.acting.enter.Tie as tie
+use Rattle.step.proofs.acting.enter_in.Statement.{statement}
+use Rattle.step.proofs.acting.enter_in.Tie as tie
 use borrow.Author.Needs.{needs}
 
 enum-told : tie.Need-enum-told
@@ -19,8 +19,8 @@ act-at-requires c κs = search needs
 enum-known-event-2 : tie.Need-enum-known-event-2
 enum-known-event-2 c = search needs
 
-meet-requires : tie.Need-meet-requires
-meet-requires c κs = search needs
+meet-at-requires : tie.Need-meet-at-requires
+meet-at-requires c κs = search needs
 
 enum-told-2 : tie.Need-enum-told-2
 enum-told-2 c = search needs
@@ -29,19 +29,19 @@ resume-requires : tie.Need-resume-requires
 resume-requires c κs = search needs
 
 returns : tie.Need-returns
-returns c = rw (c .before .enum-told .given .1) (c .begin .ensures)
+returns c = rw (c .before .before .before .enum-told .given .1) (c .begin .ensures)
 
 returns-2 : tie.Need-returns-2
-returns-2 c = rw (c .before .before .event .given .1) (c .act-at .ensures)
+returns-2 c = rw (c .before .before .before .before .event .given .1) (c .act-at .ensures)
 
 returns-3 : tie.Need-returns-3
-returns-3 c = rw (c .before .before .event2 .given .1) (c .meet .ensures)
+returns-3 c = rw (c .before .before .before .before .event2 .given .1) (c .meet-at .ensures)
 
 returns-4 : tie.Need-returns-4
-returns-4 c = rw (c .before .enum-told2 .given .1) (c .resume .ensures)
+returns-4 c = rw (c .before .before .before .enum-told2 .given .1) (c .resume .ensures)
 
-pub enter-spec : {M : Type 1} → statement M
-enter-spec =
+pub enter-in-spec : {M : Type 1} → statement M
+enter-in-spec =
     tie.close
     (tie.spec
     enum-told
@@ -49,7 +49,7 @@ enter-spec =
     enum-known-event
     act-at-requires
     enum-known-event-2
-    meet-requires
+    meet-at-requires
     enum-told-2
     resume-requires
     returns

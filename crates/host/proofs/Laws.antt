@@ -1,11 +1,10 @@
--- The lines of a listing that has ended are the listing of document 01: `whole`, `lists`. The last line comes alone behind the last entry: `ends`.
+-- The lines of a listing that has ended are the listing of document 01: `lists`. The last line comes alone behind the last entry: `ends`.
 -- A run from the fresh section is the log's: `from-fresh`. Eight stores, one behind the other, are eight figures at the front: `eight`.
 -- Assumes nothing.
 use Prim.Native.Nat.{_-_, _<_, _≤_, suc, zero, ℕ}
 use Rattle.host.specs.Answers.{Ends, Lists, fits, linesIn, ranOf}
 use Rattle.listing.proofs.Filling.{has-ended, no-room}
-use Rattle.listing.proofs.Whole.{blocks}
-use Rattle.listing.specs.Blocks.{block, none-left}
+use Rattle.listing.proofs.Whole.{room-for-all, whole-block}
 use Rattle.listing.specs.Listings.{listingOf}
 use Rattle.listing.specs.Turns.{Fills, begun, ended, filledBy, isLast, lastLine, nextTurn}
 use Rattle.listing.specs.declared.blocks.Filled.{Filled}
@@ -26,19 +25,16 @@ use mathlib.Core.List.{List, [], _++_, _∷_, append-nil}
 use mathlib.Core.Path.{_∙_, _≡_, ap, refl, sym}
 use native.Mathlib.Omega.{arith}
 
-pub whole : (log : List ℕ) (room : ℕ) → length log < 18446744073709551615 → fits log room ≡ true → linesIn log room ≡ listingOf log
-whole log room h e = sym (append-nil (linesIn log room)) ∙ blocks log (linesIn log room ++ []) h (block room (none-left e))
-
 -- a buffer that was filled once, from the start, where it is known whether the listing has ended
 pub lists : {log out after : List ℕ} {filled : Filled} (b : Bool) → length log < 18446744073709551615 → Fills log (begun log) out filled after → filled .listing .ended ≡ b
     → Lists log out (cond b (filled .count) 0) after
-lists {log} {out} {after} {filled} b h f e = record { count = counted b known; left = f .left; whole = whole log (length out) h }
+lists {log} {out} {after} {filled} b h f e = record { count = counted b known; left = f .left; whole = whole-block log (length out) h; enough = λ room. room-for-all log (length out) h room .1 }
   where
     known : fits log (length out) ≡ b
     known = sym (ap (λ (l : Listing). l .ended) (f .listing)) ∙ e
 
     counted : (b : Bool) → fits log (length out) ≡ b → cond b (filled .count) 0 ≡ cond (fits log (length out)) (length (listingOf log)) 0
-    counted true known = rw known (f .count ∙ ap length (whole log (length out) h known))
+    counted true known = rw known (f .count ∙ ap length (whole-block log (length out) h known))
     counted false known = rw known
 
 -- the listing behind the last entry of a run

@@ -1,5 +1,5 @@
 -- What a host is answered, and what its buffers then hold, by the definitions of the listing and of the run.
-use Prim.Native.Nat.{ℕ}
+use Prim.Native.Nat.{_+_, _≤_, ℕ}
 use Rattle.listing.specs.Lines.{endLine, longLine}
 use Rattle.listing.specs.Listings.{listingOf}
 use Rattle.listing.specs.Turns.{begun, blockOf}
@@ -28,11 +28,12 @@ linesIn log room = blockOf log (begun log) room .0
 abbrev pub fits : List ℕ → ℕ → Bool
 fits log room = blockOf log (begun log) room .1 .ended
 
--- the whole listing and its length; or 0, and the lines that the buffer took
+-- the whole listing and its length; or 0, and the lines that the buffer took; 172 bytes more than the listing are room enough
 pub record Lists (log out : List ℕ) (r : ℕ) (after : List ℕ) : Type 0 where
   pub count : r ≡ cond (fits log (length out)) (length (listingOf log)) 0
   pub left : after ≡ pasted out 0 (linesIn log (length out))
   pub whole : fits log (length out) ≡ true → linesIn log (length out) ≡ listingOf log
+  pub enough : length (listingOf log) + 172 ≤ length out → fits log (length out) ≡ true
 
 -- ---- the last line
 

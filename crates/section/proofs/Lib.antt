@@ -3,4 +3,5 @@ pub mod Packing
 pub mod Padding
 pub mod Pads
 pub mod Passes
+pub mod Stored
 pub mod Tallies

@@ -1,5 +1,7 @@
 pub mod Ends
+pub mod Packing
 pub mod Padding
 pub mod Pads
 pub mod Passes
+pub mod Stored
 pub mod Tallies

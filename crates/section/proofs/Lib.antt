@@ -1,4 +1,5 @@
 pub mod Ends
+pub mod Keeping
 pub mod Packing
 pub mod Padding
 pub mod Pads

@@ -52,11 +52,11 @@ unfolding sectionIn
 desk-at line fs A = refl
 desk-at line fs B = refl
 
--- the words with a desk's nine stored from `first` on; its interval and its flag are words already
+-- the words with a desk's nine stored, the first at `first` and the others two on from one another; its interval and its flag are words already
 abbrev pub put : List ℕ → ℕ → Desk → ℕ → ℕ → List ℕ
 put fs first d interval out =
-    set (set (set (set (set (set (set (set (set fs first (d .clock)) (first + 1) (d .last)) (first + 2) (d .sent)) (first + 3) interval)
-    (first + 4) out) (first + 5) (d .guest)) (first + 6) (d .asked)) (first + 7) (d .holds)) (first + 8) (d .owes)
+    set (set (set (set (set (set (set (set (set fs first (d .clock)) (first + 2) (d .last)) (first + 4) (d .sent)) (first + 6) interval)
+    (first + 8) out) (first + 10) (d .guest)) (first + 12) (d .asked)) (first + 14) (d .holds)) (first + 16) (d .owes)
 
 -- each figure is in range of its type
 pub record InRange (d : Desk) : Type 0 where

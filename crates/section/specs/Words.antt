@@ -60,22 +60,22 @@ abbrev pub intervalWord : Interval → ℕ
 intervalWord Stopped = 0
 intervalWord (Since minute) = minute + 1
 
--- where a station's nine begin
+-- where a station's nine begin; those of A and of B lie in turns
 abbrev pub firstOf : Station → ℕ
 firstOf A = 3
-firstOf B = 12
+firstOf B = 4
 
 abbrev pub deskIn : List ℕ → Station → Desk
 deskIn figures x = record {
   clock = getD figures (firstOf x) 0 % 65536;
-  last = getD figures (firstOf x + 1) 0 % 65536;
-  sent = getD figures (firstOf x + 2) 0 % 256;
-  interval = intervalIn (getD figures (firstOf x + 3) 0);
-  out = eqb (getD figures (firstOf x + 4) 0) 1;
-  guest = getD figures (firstOf x + 5) 0 % 256;
-  asked = getD figures (firstOf x + 6) 0 % 256;
-  holds = getD figures (firstOf x + 7) 0 % 256;
-  owes = getD figures (firstOf x + 8) 0 % 256;
+  last = getD figures (firstOf x + 2) 0 % 65536;
+  sent = getD figures (firstOf x + 4) 0 % 256;
+  interval = intervalIn (getD figures (firstOf x + 6) 0);
+  out = eqb (getD figures (firstOf x + 8) 0) 1;
+  guest = getD figures (firstOf x + 10) 0 % 256;
+  asked = getD figures (firstOf x + 12) 0 % 256;
+  holds = getD figures (firstOf x + 14) 0 % 256;
+  owes = getD figures (firstOf x + 16) 0 % 256;
 }
 
 -- "a 32-bit count of refused entries that stops at its largest value"

@@ -1,4 +1,4 @@
-// The figures of a section but for the line, in 21 lent words: the length of the line, in force, refused, and nine words for each desk.
+// The figures of a section but for the line, in 21 lent words: the length of the line, in force, refused, and nine words for each desk, in turns.
 // `let _ = &figures[..];` does nothing: seen as a slice, the array shows the proof that its words are 21.
 ghost use Prim.Native.Nat.{_≤_, ℕ};
 ghost use Rattle.section.specs.Words.{firstOf, intervalIn, intervalWord, oneMore, sectionIn};
@@ -17,13 +17,13 @@ pub(crate) const FORCE: usize = 1;
 
 pub(crate) const REFUSED: usize = 2;
 
-// Where a station's nine words begin.
+// Where a station's nine words begin. A's and B's lie in turns, so that a word of either is reached by one sum.
 fn first_of(at: Station) -> usize
-    ensures { λ r. ⌜ (r ≡ firstOf at) × (r ≤ 12) ⌝ }
+    ensures { λ r. ⌜ (r ≡ firstOf at) × (r ≤ 4) ⌝ }
 {
     match at {
         Station::A => 3,
-        Station::B => 12,
+        Station::B => 4,
     }
 }
 
@@ -53,14 +53,14 @@ pub fn desk(figures: &[u64; 21], at: Station) -> Desk
     let first = first_of(at);
     Desk {
         clock: (figures[first] % 65536) as u16,
-        last: (figures[first + 1] % 65536) as u16,
-        sent: (figures[first + 2] % 256) as u8,
-        interval: interval_in(figures[first + 3]),
-        out: figures[first + 4] == 1,
-        guest: (figures[first + 5] % 256) as u8,
-        asked: (figures[first + 6] % 256) as u8,
-        holds: (figures[first + 7] % 256) as u8,
-        owes: (figures[first + 8] % 256) as u8,
+        last: (figures[first + 2] % 65536) as u16,
+        sent: (figures[first + 4] % 256) as u8,
+        interval: interval_in(figures[first + 6]),
+        out: figures[first + 8] == 1,
+        guest: (figures[first + 10] % 256) as u8,
+        asked: (figures[first + 12] % 256) as u8,
+        holds: (figures[first + 14] % 256) as u8,
+        owes: (figures[first + 16] % 256) as u8,
     }
 }
 
@@ -72,14 +72,14 @@ pub fn put_desk(figures: &mut [u64; 21], at: Station, d: Desk)
     let first = first_of(at);
     let interval = d.interval;
     figures[first] = d.clock as u64;
-    figures[first + 1] = d.last as u64;
-    figures[first + 2] = d.sent as u64;
-    figures[first + 3] = interval_word(interval);
-    figures[first + 4] = word_if(d.out);
-    figures[first + 5] = d.guest as u64;
-    figures[first + 6] = d.asked as u64;
-    figures[first + 7] = d.holds as u64;
-    figures[first + 8] = d.owes as u64;
+    figures[first + 2] = d.last as u64;
+    figures[first + 4] = d.sent as u64;
+    figures[first + 6] = interval_word(interval);
+    figures[first + 8] = word_if(d.out);
+    figures[first + 10] = d.guest as u64;
+    figures[first + 12] = d.asked as u64;
+    figures[first + 14] = d.holds as u64;
+    figures[first + 16] = d.owes as u64;
 }
 
 // One more, up to the largest value.

@@ -1,4 +1,5 @@
 pub mod Ends
+pub mod Mapping
 pub mod Padding
 pub mod Pads
 pub mod Passes

@@ -5,42 +5,41 @@ ghost use Rattle.section.specs.Words.{sectionIn, vehicleIn, vehiclesIn};
 ghost use Rattle.working.specs.Reasons.{findOf, mayMeet};
 ghost use Rattle.working.specs.Sections.{emptied, insertAt, lineOf, nearestAt, padTo, removeAt, withLine};
 ghost use Rattle.working.specs.Steps.{metAt, turnAt, turned};
-ghost use lib.ListN.{drop, getD, set, take};
+ghost use lib.ListN.{drop, getD, length, set, take};
 ghost use mathlib.Core.Bool.{cond};
 ghost use mathlib.Core.List.{_∷_};
 ghost use mathlib.Core.Path.{_≡_};
 use crate::figures::FORCE;
 use crate::figures::LEN;
 use crate::figures::put_desk;
+use crate::figures::put_figure;
 use crate::stations::station_number;
 use crate::vehicles::is_named;
 use crate::vehicles::is_opener;
 use crate::words::vehicle_in;
 use crate::words::vehicle_word;
+use crate::words::word_count;
 use crate::words::word_if;
 use working::Desk;
-use working::Section;
 use working::Station;
 use working::Vehicle;
 
 // As many vehicles as there are places for.
-fn present_in(figures: &[u64; 21]) -> usize
-    ensures { λ r. ⌜ r ≡ min (getD (now (figures .entry)) 0 0) 24 ⌝ }
+fn present_in(line: &[u64; 24], figures: &[u64; 21]) -> usize
+    ensures { λ r. ⌜ (r ≡ min (getD (now (figures .entry)) 0 0) 24) × (length (now (line .entry)) ≡ 24) ⌝ }
 {
+    let places = word_count(line);
     let len = figures[LEN] as usize;
-    if len < Section::PLACES {
-        len
-    } else {
-        Section::PLACES
-    }
+    if len < places { len } else { places }
 }
 
 // Every place from `from` on is made unused.
 fn blank(line: &mut [u64; 24], from: usize)
-    ensures { λ _. ⌜ vehiclesIn (now (line .exit)) ≡ padTo 24 (take from (vehiclesIn (now (line .entry)))) ⌝ }
+    ensures { λ _. ⌜ (vehiclesIn (now (line .exit)) ≡ padTo 24 (take from (vehiclesIn (now (line .entry))))) × (length (now (line .entry)) ≡ 24) ⌝ }
 {
+    let places = word_count(line);
     let mut i = from;
-    while i < Section::PLACES {
+    while i < places {
         line[i] = 0;
         i += 1;
     }
@@ -50,9 +49,10 @@ fn blank(line: &mut [u64; 24], from: usize)
 fn put_first(line: &mut [u64; 24], word: u64)
     ensures { λ _. ⌜ vehiclesIn (now (line .exit)) ≡ padTo 24 (vehicleIn word ∷ vehiclesIn (now (line .entry))) ⌝ }
 {
+    let places = word_count(line);
     let mut next = word;
     let mut i: usize = 0;
-    while i < Section::PLACES {
+    while i < places {
         let here = line[i];
         line[i] = next;
         next = here;
@@ -65,7 +65,7 @@ fn drop_first(line: &mut [u64; 24])
     ensures { λ _. ⌜ vehiclesIn (now (line .exit)) ≡ padTo 24 (drop 1 (vehiclesIn (now (line .entry)))) ⌝ }
 {
     let mut next = 0;
-    let mut i = Section::PLACES;
+    let mut i = word_count(line);
     while 0 < i {
         i -= 1;
         let here = line[i];
@@ -78,7 +78,7 @@ fn drop_first(line: &mut [u64; 24])
 fn put_at(line: &mut [u64; 24], i: usize, word: u64)
     ensures { λ _. ⌜ vehiclesIn (now (line .exit)) ≡ set (vehiclesIn (now (line .entry))) i (vehicleIn word) ⌝ }
 {
-    if i < Section::PLACES {
+    if i < word_count(line) {
         line[i] = word;
     }
 }
@@ -87,9 +87,9 @@ fn put_at(line: &mut [u64; 24], i: usize, word: u64)
 pub fn insert(line: &mut [u64; 24], figures: &mut [u64; 21], at: Station, v: Vehicle)
     ensures { λ _. ⌜ (let s = sectionIn (now (line .entry)) (now (figures .entry)) in sectionIn (now (line .exit)) (now (figures .exit)) ≡ withLine s (insertAt at v (lineOf s))) ⌝ }
 {
-    let present = present_in(figures);
+    let present = present_in(line, figures);
     let word = vehicle_word(v);
-    figures[LEN] = (present + 1) as u64;
+    put_figure(figures, LEN, (present + 1) as u64);
     blank(line, present);
     match at {
         Station::A => put_first(line, word),
@@ -108,9 +108,9 @@ fn fewer(n: usize) -> usize
 pub fn remove(line: &mut [u64; 24], figures: &mut [u64; 21], at: Station)
     ensures { λ _. ⌜ (let s = sectionIn (now (line .entry)) (now (figures .entry)) in sectionIn (now (line .exit)) (now (figures .exit)) ≡ withLine s (removeAt at (lineOf s))) ⌝ }
 {
-    let present = present_in(figures);
+    let present = present_in(line, figures);
     let left = fewer(present);
-    figures[LEN] = left as u64;
+    put_figure(figures, LEN, left as u64);
     match at {
         Station::A => {
             blank(line, present);
@@ -124,7 +124,7 @@ pub fn remove(line: &mut [u64; 24], figures: &mut [u64; 21], at: Station)
 pub fn nearest(line: &[u64; 24], figures: &[u64; 21], at: Station) -> Vehicle
     ensures { λ r. ⌜ r ≡ nearestAt at (lineOf (sectionIn (now (line .entry)) (now (figures .entry)))) ⌝ }
 {
-    let present = present_in(figures);
+    let present = present_in(line, figures);
     if present == 0 {
         return Vehicle::unused();
     }
@@ -145,7 +145,7 @@ fn place_if(found: bool, i: usize, later: usize) -> usize
 pub fn find(line: &[u64; 24], figures: &[u64; 21], sender: Station, form: u16) -> usize
     ensures { λ r. ⌜ r ≡ findOf sender form (lineOf (sectionIn (now (line .entry)) (now (figures .entry)))) ⌝ }
 {
-    let present = present_in(figures);
+    let present = present_in(line, figures);
     let mut found = present;
     let mut i = present;
     while 0 < i {
@@ -159,7 +159,7 @@ pub fn find(line: &[u64; 24], figures: &[u64; 21], sender: Station, form: u16) -
 pub fn may_meet(line: &[u64; 24], figures: &[u64; 21], i: usize) -> bool
     ensures { λ r. ⌜ r ≡ mayMeet (lineOf (sectionIn (now (line .entry)) (now (figures .entry)))) i ⌝ }
 {
-    let present = present_in(figures);
+    let present = present_in(line, figures);
     if present <= i {
         return false;
     }
@@ -200,8 +200,8 @@ fn turn(line: &mut [u64; 24], len: usize, i: usize, to: Station)
 pub fn meet(line: &mut [u64; 24], figures: &mut [u64; 21], to: Station, i: usize)
     ensures { λ _. ⌜ (let s = sectionIn (now (line .entry)) (now (figures .entry)) in sectionIn (now (line .exit)) (now (figures .exit)) ≡ withLine s (metAt to i (lineOf s))) ⌝ }
 {
-    let present = present_in(figures);
-    figures[LEN] = present as u64;
+    let present = present_in(line, figures);
+    put_figure(figures, LEN, present as u64);
     if present <= i {
         blank(line, present);
         return;
@@ -215,8 +215,8 @@ pub fn empty(line: &mut [u64; 24], figures: &mut [u64; 21], force: bool)
     ensures { λ _. ⌜ sectionIn (now (line .exit)) (now (figures .exit)) ≡ emptied force (sectionIn (now (line .entry)) (now (figures .entry)) .refused) ⌝ }
 {
     blank(line, 0);
-    figures[LEN] = 0;
-    figures[FORCE] = word_if(force);
+    put_figure(figures, LEN, 0);
+    put_figure(figures, FORCE, word_if(force));
     put_desk(figures, Station::A, Desk::fresh());
     put_desk(figures, Station::B, Desk::fresh());
 }

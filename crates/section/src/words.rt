@@ -1,4 +1,5 @@
 // A vehicle as one word, so that a line of vehicles can be lent and altered where it lies. The word 0 is an unused place.
+ghost use Prim.Native.Nat.{_<_};
 ghost use Rattle.section.specs.Words.{movementIn, movementWord, vehicleIn, vehicleWord};
 ghost use Rattle.working.specs.WellMade.{oneIf};
 ghost use lib.ListN.{length};
@@ -22,7 +23,7 @@ pub(crate) fn word_if(test: bool) -> u64
 
 // What a vehicle left on in the two lowest bits, then granted, then asked.
 fn movement_word(movement: Movement) -> u64
-    ensures { λ r. ⌜ r ≡ movementWord movement ⌝ }
+    ensures { λ r. ⌜ (r ≡ movementWord movement) × (movementIn r ≡ movement) × (r < 262144) ⌝ }
 {
     match movement {
         Movement::Open { asked } => (asked as u64) * 256 * 4,

@@ -1,4 +1,5 @@
 // The figures of a section but for the line, in 21 lent words: the length of the line, in force, refused, and nine words for each desk.
+// `let _ = &figures[..];` does nothing: seen as a slice, the array shows the proof that its words are 21.
 ghost use Prim.Native.Nat.{_≤_, ℕ};
 ghost use Rattle.section.specs.Words.{firstOf, intervalIn, intervalWord, oneMore, sectionIn};
 ghost use Rattle.working.specs.Sections.{countRefusal, deskOf, withDesk};
@@ -38,7 +39,7 @@ fn first_of(at: Station) -> usize
 
 // 0 where no interval is running, else one more than the minute of the last departure.
 fn interval_word(interval: Interval) -> u64
-    ensures { λ r. ⌜ r ≡ intervalWord interval ⌝ }
+    ensures { λ r. ⌜ (r ≡ intervalWord interval) × (intervalIn r ≡ interval) ⌝ }
 {
     match interval {
         Interval::Stopped => 0,
@@ -77,6 +78,7 @@ pub fn desk(figures: &[u64; 21], at: Station) -> Desk
 pub fn put_desk(figures: &mut [u64; 21], at: Station, d: Desk)
     ensures { λ _. ⌜ ((l : List ℕ) → sectionIn l (now (figures .exit)) ≡ withDesk (sectionIn l (now (figures .entry))) at d) ⌝ }
 {
+    let _ = &figures[..];
     let first = first_of(at);
     let interval = d.interval;
     figures[first] = d.clock as u64;
@@ -101,6 +103,7 @@ fn one_more(count: u32) -> u32
 pub fn count_refusal(figures: &mut [u64; 21])
     ensures { λ _. ⌜ ((l : List ℕ) → sectionIn l (now (figures .exit)) ≡ countRefusal (sectionIn l (now (figures .entry)))) ⌝ }
 {
+    let _ = &figures[..];
     let count = (figures[REFUSED] % 4294967296) as u32;
     figures[REFUSED] = one_more(count) as u64;
 }

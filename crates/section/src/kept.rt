@@ -44,10 +44,11 @@ pub fn figure_words(s: Section) -> [u64; 21]
     figures
 }
 
-// The vehicles that the words of a line stand for.
+// The vehicles that the words of a line stand for. Seen as a slice, the array shows the proof that its words are 24.
 fn vehicles_in(line: &[u64; 24]) -> [Vehicle; 24]
     ensures { λ r. ⌜ r ≡ vehiclesIn (now (line .entry)) ⌝ }
 {
+    let _ = &line[..];
     let mut places = [Vehicle::unused(); 24];
     let mut i: usize = 0;
     while i < Section::PLACES {

@@ -2,6 +2,7 @@
 -- Each law goes by the station, A at the first place and B at the last used.
 -- Assumes nothing.
 use Prim.Native.Nat.{_+_, _-_, _<_, _≤_, min, suc, ℕ}
+use Rattle.section.proofs.Packing.{one-back}
 use Rattle.section.proofs.Pads.{pad-cons, pad-set, pad-snoc, pad-tail}
 use Rattle.section.proofs.Passes.{take-present}
 use Rattle.working.proofs.Made.{line-with}
@@ -15,7 +16,7 @@ use Rattle.working.specs.declared.Station.the-variants.{A, B}
 use Rattle.working.specs.declared.Vehicle.{Vehicle}
 use lib.ListN.{drop, getD, length, length-append, length-drop, length-take, set, take}
 use lib.Seq.{getD-take, length-take-le, set-out, take-take}
-use mathlib.Core.Bool.{Bool, false, true}
+use mathlib.Core.Bool.{Bool}
 use mathlib.Core.List.{List, [], _++_, _∷_}
 use mathlib.Core.Path.{_∙_, _≡_, ap, ap₂, refl, sym}
 use native.Mathlib.Numerals.{add-one}
@@ -43,20 +44,19 @@ abbrev pub Hold : List Vehicle → ℕ → List Vehicle → Type 0
 Hold places n l = (places ≡ padTo 24 l) × (n ≡ length l)
 
 -- so the section whose words they are, with n stored as its length
-pub relined : (line figures after : List ℕ) (l : List Vehicle) {changed : List ℕ} {n : ℕ} → length figures ≡ 21 → changed ≡ set figures 0 n → Hold (vehiclesIn after) n l
-    → sectionIn after changed ≡ withLine (sectionIn line figures) l
+pub relined : (line figures after : List ℕ) (l : List Vehicle) {n : ℕ} → length figures ≡ 21 → Hold (vehiclesIn after) n l
+    → sectionIn after (set figures 0 n) ≡ withLine (sectionIn line figures) l
 unfolding sectionIn
-relined line [] after l some e h = absurd (omega arith)
-relined line (w ∷ figures) after l some e h = rw (e, h .0, h .1)
+relined line [] after l some h = absurd (omega arith)
+relined line (w ∷ figures) after l some h = rw (h .0, h .1)
 
 -- no vehicle, and both desks as fresh
-pub emptied-in : (line figures after : List ℕ) (force : Bool) {changed : List ℕ} → length figures ≡ 21 → changed ≡ set (set figures 0 0) 1 (oneIf force) → vehiclesIn after ≡ padTo 24 []
-    → withDesk (withDesk (sectionIn after changed) A freshDesk) B freshDesk ≡ emptied force (sectionIn line figures .refused)
+pub emptied-in : (line figures after : List ℕ) (force : Bool) → length figures ≡ 21 → vehiclesIn after ≡ padTo 24 []
+    → withDesk (withDesk (sectionIn after (set (set figures 0 0) 1 (oneIf force))) A freshDesk) B freshDesk ≡ emptied force (sectionIn line figures .refused)
 unfolding sectionIn
-emptied-in line [] after force some e h = absurd (omega arith)
-emptied-in line (w ∷ []) after force some e h = absurd (omega arith)
-emptied-in line (w ∷ u ∷ figures) after true some e h = rw (e, h)
-emptied-in line (w ∷ u ∷ figures) after false some e h = rw (e, h)
+emptied-in line [] after force some h = absurd (omega arith)
+emptied-in line (w ∷ []) after force some h = absurd (omega arith)
+emptied-in line (w ∷ u ∷ figures) after force some h = rw (h, one-back force)
 
 module _ (places : List Vehicle) (len : ℕ) (long : length places ≡ 24) {n : ℕ} (present : n ≡ min len 24) where
   first-n : take n places ≡ take len places

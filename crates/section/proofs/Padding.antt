@@ -43,9 +43,9 @@ all-stored line old i {after} e h p =
 -- ---- from B's end down
 
 -- none is written
-pub none-stored : (line old : List Vehicle) (i : ℕ) → i ≡ 24 → length old ≡ 24 → old ≡ take i old ++ drop i (padTo 24 line)
-none-stored line old i e h =
-    rw (take-all i old (omega arith), drop-of-length-le (padTo 24 line) {i = i} (omega (arith, length-padTo 24 line))) (sym (append-nil old))
+pub none-stored : (line old : List Vehicle) → length old ≡ 24 → old ≡ take 24 old ++ drop 24 (padTo 24 line)
+none-stored line old e =
+    rw (take-all 24 old (omega arith), drop-of-length-le (padTo 24 line) {i = 24} (omega (arith, length-padTo 24 line))) (sym (append-nil old))
 
 -- the places behind place i are written, and place i is next
 store-back : (n : ℕ) (line old : List Vehicle) (i : ℕ) → i < n → length old ≡ n

@@ -3,10 +3,8 @@
 ghost use Prim.Native.Nat.{_≤_, ℕ};
 ghost use Rattle.section.specs.Words.{firstOf, intervalIn, intervalWord, oneMore, sectionIn};
 ghost use Rattle.working.specs.Sections.{countRefusal, deskOf, withDesk};
-ghost use lib.ListN.{length, set};
 ghost use mathlib.Core.List.{List};
 ghost use mathlib.Core.Path.{_≡_};
-use crate::words::word_count;
 use crate::words::word_if;
 use working::Desk;
 use working::Interval;
@@ -17,15 +15,6 @@ pub(crate) const LEN: usize = 0;
 pub(crate) const FORCE: usize = 1;
 
 pub(crate) const REFUSED: usize = 2;
-
-// One figure is stored; past the last nothing is.
-pub(crate) fn put_figure(figures: &mut [u64; 21], i: usize, word: u64)
-    ensures { λ _. ⌜ (now (figures .exit) ≡ set (now (figures .entry)) i word) × (length (now (figures .entry)) ≡ 21) ⌝ }
-{
-    if i < word_count(figures) {
-        figures[i] = word;
-    }
-}
 
 // Where a station's nine words begin.
 fn first_of(at: Station) -> usize

@@ -1,5 +1,6 @@
 // The vehicles present, the first `len` of the 24 places, in lent words: one enters or leaves at a station's end, and two meet. Behind them every place is
 // left unused, whatever stood there, so that each function is equal to its definition on any section.
+// `let _ = &line[..];` does nothing: seen as a slice, the array shows the proof how many its words are.
 ghost use Prim.Native.Nat.{_-_, _≤_, min};
 ghost use Rattle.section.specs.Words.{sectionIn, vehicleIn, vehiclesIn};
 ghost use Rattle.working.specs.Reasons.{findOf, mayMeet};
@@ -12,34 +13,38 @@ ghost use mathlib.Core.Path.{_≡_};
 use crate::figures::FORCE;
 use crate::figures::LEN;
 use crate::figures::put_desk;
-use crate::figures::put_figure;
 use crate::stations::station_number;
 use crate::vehicles::is_named;
 use crate::vehicles::is_opener;
 use crate::words::vehicle_in;
 use crate::words::vehicle_word;
-use crate::words::word_count;
 use crate::words::word_if;
 use working::Desk;
+use working::Section;
 use working::Station;
 use working::Vehicle;
 
 // As many vehicles as there are places for.
 fn present_in(line: &[u64; 24], figures: &[u64; 21]) -> usize
-    ensures { λ r. ⌜ (r ≡ min (getD (now (figures .entry)) 0 0) 24) × (length (now (line .entry)) ≡ 24) ⌝ }
+    ensures { λ r. ⌜ (r ≡ min (getD (now (figures .entry)) 0 0) 24) × (length (now (line .entry)) ≡ 24) × (length (now (figures .entry)) ≡ 21) ⌝ }
 {
-    let places = word_count(line);
+    let _ = &line[..];
+    let _ = &figures[..];
     let len = figures[LEN] as usize;
-    if len < places { len } else { places }
+    if len < Section::PLACES {
+        len
+    } else {
+        Section::PLACES
+    }
 }
 
 // Every place from `from` on is made unused.
 fn blank(line: &mut [u64; 24], from: usize)
-    ensures { λ _. ⌜ (vehiclesIn (now (line .exit)) ≡ padTo 24 (take from (vehiclesIn (now (line .entry))))) × (length (now (line .entry)) ≡ 24) ⌝ }
+    ensures { λ _. ⌜ vehiclesIn (now (line .exit)) ≡ padTo 24 (take from (vehiclesIn (now (line .entry)))) ⌝ }
 {
-    let places = word_count(line);
+    let _ = &line[..];
     let mut i = from;
-    while i < places {
+    while i < Section::PLACES {
         line[i] = 0;
         i += 1;
     }
@@ -49,10 +54,10 @@ fn blank(line: &mut [u64; 24], from: usize)
 fn put_first(line: &mut [u64; 24], word: u64)
     ensures { λ _. ⌜ vehiclesIn (now (line .exit)) ≡ padTo 24 (vehicleIn word ∷ vehiclesIn (now (line .entry))) ⌝ }
 {
-    let places = word_count(line);
+    let _ = &line[..];
     let mut next = word;
     let mut i: usize = 0;
-    while i < places {
+    while i < Section::PLACES {
         let here = line[i];
         line[i] = next;
         next = here;
@@ -64,8 +69,9 @@ fn put_first(line: &mut [u64; 24], word: u64)
 fn drop_first(line: &mut [u64; 24])
     ensures { λ _. ⌜ vehiclesIn (now (line .exit)) ≡ padTo 24 (drop 1 (vehiclesIn (now (line .entry)))) ⌝ }
 {
+    let _ = &line[..];
     let mut next = 0;
-    let mut i = word_count(line);
+    let mut i = Section::PLACES;
     while 0 < i {
         i -= 1;
         let here = line[i];
@@ -78,7 +84,8 @@ fn drop_first(line: &mut [u64; 24])
 fn put_at(line: &mut [u64; 24], i: usize, word: u64)
     ensures { λ _. ⌜ vehiclesIn (now (line .exit)) ≡ set (vehiclesIn (now (line .entry))) i (vehicleIn word) ⌝ }
 {
-    if i < word_count(line) {
+    let _ = &line[..];
+    if i < Section::PLACES {
         line[i] = word;
     }
 }
@@ -89,7 +96,7 @@ pub fn insert(line: &mut [u64; 24], figures: &mut [u64; 21], at: Station, v: Veh
 {
     let present = present_in(line, figures);
     let word = vehicle_word(v);
-    put_figure(figures, LEN, (present + 1) as u64);
+    figures[LEN] = (present + 1) as u64;
     blank(line, present);
     match at {
         Station::A => put_first(line, word),
@@ -110,7 +117,7 @@ pub fn remove(line: &mut [u64; 24], figures: &mut [u64; 21], at: Station)
 {
     let present = present_in(line, figures);
     let left = fewer(present);
-    put_figure(figures, LEN, left as u64);
+    figures[LEN] = left as u64;
     match at {
         Station::A => {
             blank(line, present);
@@ -189,6 +196,7 @@ fn turn(line: &mut [u64; 24], len: usize, i: usize, to: Station)
     requires { ⌜ len ≤ 24 ⌝ }
     ensures { λ _. ⌜ vehiclesIn (now (line .exit)) ≡ padTo 24 (turnAt to i (take len (vehiclesIn (now (line .entry))))) ⌝ }
 {
+    let _ = &line[..];
     blank(line, len);
     if i < len {
         let v = turned(vehicle_in(line[i]), to);
@@ -201,7 +209,7 @@ pub fn meet(line: &mut [u64; 24], figures: &mut [u64; 21], to: Station, i: usize
     ensures { λ _. ⌜ (let s = sectionIn (now (line .entry)) (now (figures .entry)) in sectionIn (now (line .exit)) (now (figures .exit)) ≡ withLine s (metAt to i (lineOf s))) ⌝ }
 {
     let present = present_in(line, figures);
-    put_figure(figures, LEN, present as u64);
+    figures[LEN] = present as u64;
     if present <= i {
         blank(line, present);
         return;
@@ -214,9 +222,10 @@ pub fn meet(line: &mut [u64; 24], figures: &mut [u64; 21], to: Station, i: usize
 pub fn empty(line: &mut [u64; 24], figures: &mut [u64; 21], force: bool)
     ensures { λ _. ⌜ sectionIn (now (line .exit)) (now (figures .exit)) ≡ emptied force (sectionIn (now (line .entry)) (now (figures .entry)) .refused) ⌝ }
 {
+    let _ = &figures[..];
     blank(line, 0);
-    put_figure(figures, LEN, 0);
-    put_figure(figures, FORCE, word_if(force));
+    figures[LEN] = 0;
+    figures[FORCE] = word_if(force);
     put_desk(figures, Station::A, Desk::fresh());
     put_desk(figures, Station::B, Desk::fresh());
 }

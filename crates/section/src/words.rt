@@ -2,17 +2,9 @@
 ghost use Prim.Native.Nat.{_<_};
 ghost use Rattle.section.specs.Words.{movementIn, movementWord, vehicleIn, vehicleWord};
 ghost use Rattle.working.specs.WellMade.{oneIf};
-ghost use lib.ListN.{length};
 ghost use mathlib.Core.Path.{_≡_};
 use working::Movement;
 use working::Vehicle;
-
-// How many words are lent. Of an array behind a reference this is known only of its words as a slice, and the compiler knows it.
-pub(crate) fn word_count(words: &[u64]) -> usize
-    ensures { λ r. ⌜ r ≡ length (now (words .entry)) ⌝ }
-{
-    words.len()
-}
 
 // 1 where a test holds, else 0.
 pub(crate) fn word_if(test: bool) -> u64

@@ -25,17 +25,14 @@ abbrev μ-loop : tie.MeasureT-loop
 μ-loop line₀ next₀ i₀ line next i = i
 
 -- there are 24 places
-long : (c : tie.After-word-count Inv-loop μ-loop) → length (vehiclesIn (c .before .before .before .args .line .now)) ≡ 24
+long : (c : tie.At-loop Inv-loop μ-loop) → length (vehiclesIn (c .before .before .before .args .line .now)) ≡ 24
 long c = rw places-length (search needs)
-
-word-count-requires : tie.Need-word-count-requires Inv-loop μ-loop
-word-count-requires c κs = search needs
 
 loop-holds : tie.Need-loop-holds Inv-loop μ-loop
 loop-holds c =
-    let places = vehiclesIn (c .before .before .before .args .line .now) in
-    let all = c .word-count .result in
-    (omega arith, none-stored (drop 1 places) places all (omega arith) (long c), sym (List·getD-eq-default places unused {n = all} (omega (arith, long c))))
+    let places = vehiclesIn (c .before .before .args .line .now) in
+    let long : length places ≡ 24 = rw places-length (search needs) in
+    (omega arith, none-stored (drop 1 places) places long, sym (List·getD-eq-default places unused {n = 24} (omega arith)))
 
 sub-i : tie.Need-sub-i Inv-loop μ-loop
 sub-i c = search needs
@@ -58,8 +55,8 @@ loop-less c = search needs
 loop-again : tie.Need-loop-again Inv-loop μ-loop
 loop-again c =
     let l = c .before .before .loop in
-    let places = vehiclesIn (c .before .before .before .before .before .before .args .line .now) in
-    let size = long (c .before .before .before) in (
+    let places = vehiclesIn (c .before .before .before .before .before .args .line .now) in
+    let size = long (c .before .before) in (
       omega arith,
       rw (place-set (l .line) (l .i - 1) (l .next), l .inv .1, l .inv .2) (stored-back places (l .i) (omega arith) (omega arith) size),
       sym (place-at (l .line) (l .i - 1)) ∙ ap (λ (t : List Vehicle). getD t (l .i - 1) unused) (l .inv .1)
@@ -78,7 +75,6 @@ drop-first-spec =
     (tie.spec
     Inv-loop
     μ-loop
-    word-count-requires
     loop-holds
     sub-i
     mul-here

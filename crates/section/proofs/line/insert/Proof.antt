@@ -19,11 +19,11 @@ present-in-requires c κs = search needs
 vehicle-word-requires : tie.Need-vehicle-word-requires
 vehicle-word-requires c κs = search needs
 
-add-put-figure : tie.Need-add-put-figure
-add-put-figure c = search needs
+add-figures : tie.Need-add-figures
+add-figures c = search needs
 
-put-figure-requires : tie.Need-put-figure-requires
-put-figure-requires c κs = search needs
+element-write-figures : tie.Need-element-write-figures
+element-write-figures c = search needs
 
 blank-requires : tie.Need-blank-requires
 blank-requires c κs = search needs
@@ -43,32 +43,31 @@ put-at-requires c κs = search needs
 returns : tie.Need-returns
 unfolding sectionIn
 returns c =
-    let blanked = c .before .before .before .before in
-    let stored = blanked .before .before in
-    let a = stored .before .before .before .before .before .before .args in
-    let line = a .line .now in
-    let figures = a .figures .now in
-    let present = stored .before .before .before .present-in .ensures in
-    let word = stored .before .before .vehicle-word .ensures .1 in
+    let blank = c .before .before .before .before .blank in
+    let word = c .before .before .before .before .before .before in
+    let present = word .before .present-in .ensures in
+    let a = word .before .before .before .before .args in
+    let places = vehiclesIn (a .line .now) in
+    let len = getD (a .figures .now) 0 0 in
     rw (c .before .before .enum-told .given .1)
-    (relined line figures (c .put-first .last .0) (insertAt A (a .v) (take (getD figures 0 0) (vehiclesIn line))) (stored .put-figure .ensures .1) (stored .put-figure .ensures .0)
-    (enters-A (vehiclesIn line) (getD figures 0 0) (places-length line ∙ present .1) (present .0) (a .v) (blanked .blank .ensures .0)
-    (c .put-first .ensures ∙ ap (λ (v : Vehicle). padTo 24 (v ∷ vehiclesIn (blanked .blank .last .0))) word)))
+    (relined (a .line .now) (a .figures .now) (c .put-first .last .0) (insertAt A (a .v) (take len places)) (present .2)
+    (enters-A places len (places-length (a .line .now) ∙ present .1) (present .0) (a .v) (blank .ensures)
+    (c .put-first .ensures ∙ ap (λ (v : Vehicle). padTo 24 (v ∷ vehiclesIn (blank .last .0))) (word .vehicle-word .ensures .1))))
 
 returns-2 : tie.Need-returns-2
 unfolding sectionIn
 returns-2 c =
-    let blanked = c .before .before .before .before in
-    let stored = blanked .before .before in
-    let a = stored .before .before .before .before .before .before .args in
-    let line = a .line .now in
-    let figures = a .figures .now in
-    let present = stored .before .before .before .present-in in
-    let word = stored .before .before .vehicle-word .ensures .1 in
+    let blank = c .before .before .before .before .blank in
+    let word = c .before .before .before .before .before .before in
+    let n = word .before .present-in .result in
+    let present = word .before .present-in .ensures in
+    let a = word .before .before .before .before .args in
+    let places = vehiclesIn (a .line .now) in
+    let len = getD (a .figures .now) 0 0 in
     rw (c .before .before .enum-told2 .given .1)
-    (relined line figures (c .put-at .last .0) (insertAt B (a .v) (take (getD figures 0 0) (vehiclesIn line))) (stored .put-figure .ensures .1) (stored .put-figure .ensures .0)
-    (enters-B (vehiclesIn line) (getD figures 0 0) (places-length line ∙ present .ensures .1) (present .ensures .0) (a .v) (blanked .blank .ensures .0)
-    (c .put-at .ensures ∙ ap (λ (v : Vehicle). set (vehiclesIn (blanked .blank .last .0)) (present .result) v) word)))
+    (relined (a .line .now) (a .figures .now) (c .put-at .last .0) (insertAt B (a .v) (take len places)) (present .2)
+    (enters-B places len (places-length (a .line .now) ∙ present .1) (present .0) (a .v) (blank .ensures)
+    (c .put-at .ensures ∙ ap (set (vehiclesIn (blank .last .0)) n) (word .vehicle-word .ensures .1))))
 
 pub insert-spec : {M : Type 1} → statement M
 insert-spec =
@@ -76,8 +75,8 @@ insert-spec =
     (tie.spec
     present-in-requires
     vehicle-word-requires
-    add-put-figure
-    put-figure-requires
+    add-figures
+    element-write-figures
     blank-requires
     enum-told
     put-first-requires

@@ -13,8 +13,8 @@ use mathlib.Core.Path.{_∙_}
 present-in-requires : tie.Need-present-in-requires
 present-in-requires c κs = search needs
 
-put-figure-requires : tie.Need-put-figure-requires
-put-figure-requires c κs = search needs
+element-write-figures : tie.Need-element-write-figures
+element-write-figures c = search needs
 
 blank-requires : tie.Need-blank-requires
 blank-requires c κs = search needs
@@ -22,13 +22,13 @@ blank-requires c κs = search needs
 returns : tie.Need-returns
 unfolding sectionIn
 returns c =
-    let stored = c .before .before .before in
-    let a = stored .before .before .before .before .before .args in
-    let line = a .line .now in
-    let figures = a .figures .now in
-    let present = stored .before .before .present-in .ensures in
-    relined line figures (c .blank .last .0) (metAt (a .to) (a .i) (take (getD figures 0 0) (vehiclesIn line))) (stored .put-figure .ensures .1) (stored .put-figure .ensures .0)
-    (meets-none (vehiclesIn line) (getD figures 0 0) (places-length line ∙ present .1) (present .0) (a .to) (a .i) (c .before .before .if1 .taken) (c .blank .ensures .0))
+    let begun = c .before .before .before in
+    let present = begun .present-in .ensures in
+    let a = begun .before .before .before .args in
+    let places = vehiclesIn (a .line .now) in
+    let len = getD (a .figures .now) 0 0 in
+    relined (a .line .now) (a .figures .now) (c .blank .last .0) (metAt (a .to) (a .i) (take len places)) (present .2)
+    (meets-none places len (places-length (a .line .now) ∙ present .1) (present .0) (a .to) (a .i) (c .before .before .if1 .taken) (c .blank .ensures))
 
 turn-requires : tie.Need-turn-requires
 turn-requires c κs = search needs
@@ -42,20 +42,20 @@ turn-requires-2 c κs = search needs
 returns-2 : tie.Need-returns-2
 unfolding sectionIn
 returns-2 c =
-    let stored = c .before .before .before .before .before in
-    let a = stored .before .before .before .before .before .args in
-    let line = a .line .now in
-    let figures = a .figures .now in
-    let present = stored .before .before .present-in .ensures in
-    relined line figures (c .turn2 .last .0) (metAt (a .to) (a .i) (take (getD figures 0 0) (vehiclesIn line))) (stored .put-figure .ensures .1) (stored .put-figure .ensures .0)
-    (meets-two (vehiclesIn line) (getD figures 0 0) (places-length line ∙ present .1) (present .0) (a .to) (a .i) (c .before .before .turn .ensures) (c .turn2 .ensures))
+    let begun = c .before .before .before .before .before in
+    let present = begun .present-in .ensures in
+    let a = begun .before .before .before .args in
+    let places = vehiclesIn (a .line .now) in
+    let len = getD (a .figures .now) 0 0 in
+    relined (a .line .now) (a .figures .now) (c .turn2 .last .0) (metAt (a .to) (a .i) (take len places)) (present .2)
+    (meets-two places len (places-length (a .line .now) ∙ present .1) (present .0) (a .to) (a .i) (c .before .before .turn .ensures) (c .turn2 .ensures))
 
 pub meet-spec : {M : Type 1} → statement M
 meet-spec =
     tie.close
     (tie.spec
     present-in-requires
-    put-figure-requires
+    element-write-figures
     blank-requires
     returns
     turn-requires

@@ -9,9 +9,6 @@ use lib.Seq.{set-out}
 use mathlib.Core.Path.{_≡_, sym}
 use native.Mathlib.Omega.{arith}
 
-word-count-requires : tie.Need-word-count-requires
-word-count-requires c κs = search needs
-
 mul-line : tie.Need-mul-line
 mul-line c = search needs
 
@@ -19,13 +16,13 @@ element-write-line : tie.Need-element-write-line
 element-write-line c = search needs
 
 returns : tie.Need-returns
-returns c = let a = c .before .before .before .before .args in place-set (a .line .now) (a .i) (a .word)
+returns c = let a = c .before .before .before .args in place-set (a .line .now) (a .i) (a .word)
 
 returns-2 : tie.Need-returns-2
 returns-2 c =
-    let a = c .before .before .before .before .args in
+    let a = c .before .before .before .args in
     sym (set-out (vehiclesIn (a .line .now)) (a .i) (vehicleIn (a .word)) (rw places-length (omega arith)))
 
 pub put-at-spec : {M : Type 1} → statement M
 put-at-spec =
-    tie.close (tie.spec word-count-requires mul-line element-write-line returns returns-2)
+    tie.close (tie.spec mul-line element-write-line returns returns-2)

@@ -17,20 +17,17 @@ use native.Mathlib.Numerals.{add-one}
 use native.Mathlib.Omega.{arith}
 
 abbrev Inv-loop : tie.InvT-loop
-Inv-loop line₀ word places next₀ i₀ line next i =
+Inv-loop line₀ word next₀ i₀ line next i =
     (i ≤ 24)
     × (vehiclesIn line ≡ take i (padTo 24 (vehicleIn word ∷ vehiclesIn line₀)) ++ drop i (vehiclesIn line₀))
     × (vehicleIn next ≡ getD (vehicleIn word ∷ vehiclesIn line₀) i unused)
 
 abbrev μ-loop : tie.MeasureT-loop
-μ-loop line₀ word places next₀ i₀ line next i = 24 - i
+μ-loop line₀ word next₀ i₀ line next i = 24 - i
 
 -- there are 24 places
-long : (c : tie.After-word-count Inv-loop μ-loop) → length (vehiclesIn (c .before .before .before .args .line .now)) ≡ 24
+long : (c : tie.At-loop Inv-loop μ-loop) → length (vehiclesIn (c .before .before .before .args .line .now)) ≡ 24
 long c = rw places-length (search needs)
-
-word-count-requires : tie.Need-word-count-requires Inv-loop μ-loop
-word-count-requires c κs = search needs
 
 loop-holds : tie.Need-loop-holds Inv-loop μ-loop
 loop-holds c = (search needs, refl, refl)
@@ -56,20 +53,20 @@ loop-less c = search needs
 loop-again : tie.Need-loop-again Inv-loop μ-loop
 loop-again c =
     let l = c .before .before .loop in
-    let a = c .before .before .before .before .before .before .args in
+    let a = c .before .before .before .before .before .args in
     let places = vehiclesIn (a .line .now) in
     let line = vehicleIn (a .word) ∷ places in (
       omega arith,
-      rw (place-set (l .line) (l .i) (l .next), l .inv .1, l .inv .2) (stored line places (l .i) (omega arith) (long (c .before .before .before))),
+      rw (place-set (l .line) (l .i) (l .next), l .inv .1, l .inv .2) (stored line places (l .i) (omega arith) (long (c .before .before))),
       rw add-one (sym (place-at (l .line) (l .i)) ∙ ap (λ (t : List Vehicle). getD t (l .i) unused) (l .inv .1) ∙ place-ahead line places (l .i) (omega arith)),
     )
 
 returns : tie.Need-returns Inv-loop μ-loop
 returns c =
     let l = c .before .loop in
-    let a = c .before .before .before .before .before .args in
+    let a = c .before .before .before .before .args in
     let places = vehiclesIn (a .line .now) in
-    all-stored (vehicleIn (a .word) ∷ places) places (l .i) (omega arith) (long (c .before .before)) (l .inv .1)
+    all-stored (vehicleIn (a .word) ∷ places) places (l .i) (omega arith) (long (c .before)) (l .inv .1)
 
 pub put-first-spec : {M : Type 1} → statement M
 put-first-spec =
@@ -77,7 +74,6 @@ put-first-spec =
     (tie.spec
     Inv-loop
     μ-loop
-    word-count-requires
     loop-holds
     mul-here
     element-copy-out-here

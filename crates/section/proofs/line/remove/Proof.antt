@@ -17,8 +17,8 @@ present-in-requires c κs = search needs
 fewer-requires : tie.Need-fewer-requires
 fewer-requires c κs = search needs
 
-put-figure-requires : tie.Need-put-figure-requires
-put-figure-requires c κs = search needs
+element-write-figures : tie.Need-element-write-figures
+element-write-figures c = search needs
 
 enum-told : tie.Need-enum-told
 enum-told c = search needs
@@ -38,26 +38,26 @@ blank-requires-2 c κs = search needs
 returns : tie.Need-returns
 unfolding sectionIn
 returns c =
-    let stored = c .before .before .before .before .before .before in
-    let a = stored .before .before .before .before .before .before .args in
-    let line = a .line .now in
-    let figures = a .figures .now in
-    let present = stored .before .before .before .present-in .ensures in
+    let fewer = c .before .before .before .before .before .before in
+    let present = fewer .before .present-in .ensures in
+    let a = fewer .before .before .before .before .args in
+    let places = vehiclesIn (a .line .now) in
+    let len = getD (a .figures .now) 0 0 in
     rw (c .before .before .before .before .enum-told .given .1)
-    (relined line figures (c .drop-first .last .0) (removeAt A (take (getD figures 0 0) (vehiclesIn line))) (stored .put-figure .ensures .1) (stored .put-figure .ensures .0)
-    (leaves-A (vehiclesIn line) (getD figures 0 0) (places-length line ∙ present .1) (present .0) (c .before .before .blank .ensures .0) (c .drop-first .ensures) (stored .before .before .fewer .ensures)))
+    (relined (a .line .now) (a .figures .now) (c .drop-first .last .0) (removeAt A (take len places)) (present .2)
+    (leaves-A places len (places-length (a .line .now) ∙ present .1) (present .0) (c .before .before .blank .ensures) (c .drop-first .ensures) (fewer .fewer .ensures)))
 
 returns-2 : tie.Need-returns-2
 unfolding sectionIn
 returns-2 c =
-    let stored = c .before .before .before .before in
-    let a = stored .before .before .before .before .before .before .args in
-    let line = a .line .now in
-    let figures = a .figures .now in
-    let present = stored .before .before .before .present-in .ensures in
+    let fewer = c .before .before .before .before in
+    let present = fewer .before .present-in .ensures in
+    let a = fewer .before .before .before .before .args in
+    let places = vehiclesIn (a .line .now) in
+    let len = getD (a .figures .now) 0 0 in
     rw (c .before .before .enum-told2 .given .1)
-    (relined line figures (c .blank2 .last .0) (removeAt B (take (getD figures 0 0) (vehiclesIn line))) (stored .put-figure .ensures .1) (stored .put-figure .ensures .0)
-    (leaves-B (vehiclesIn line) (getD figures 0 0) (places-length line ∙ present .1) (present .0) (c .blank2 .ensures .0) (stored .before .before .fewer .ensures)))
+    (relined (a .line .now) (a .figures .now) (c .blank2 .last .0) (removeAt B (take len places)) (present .2)
+    (leaves-B places len (places-length (a .line .now) ∙ present .1) (present .0) (c .blank2 .ensures) (fewer .fewer .ensures)))
 
 pub remove-spec : {M : Type 1} → statement M
 remove-spec =
@@ -65,7 +65,7 @@ remove-spec =
     (tie.spec
     present-in-requires
     fewer-requires
-    put-figure-requires
+    element-write-figures
     enum-told
     blank-requires
     drop-first-requires

@@ -40,22 +40,22 @@ element-write-line c = search needs
 
 returns : tie.Need-returns
 returns c =
-    let blanked = c .before .before .before .before .before .blank in
-    let a = c .before .before .before .before .before .before .before .args in
-    let mid = blanked .last .0 in
-    let l = take (a .len) (vehiclesIn (a .line .now)) in
-    let size : length l ≡ a .len = length-take (a .len) (vehiclesIn (a .line .now)) ∙ rw (places-length, blanked .ensures .1) (omega arith) in
-    let there = sym (place-at mid (a .i)) ∙ ap (λ (t : List Vehicle). getD t (a .i) unused) (blanked .ensures .0) in
+    let blank = c .before .before .before .before .before .blank in
+    let a = c .before .before .before .before .before .before .before .before .before .args in
+    let places = vehiclesIn (a .line .now) in
+    let long : length places ≡ 24 = rw places-length (search needs) in
+    let size = length-take (a .len) places in
+    let there = sym (place-at (blank .last .0) (a .i)) ∙ ap (λ (t : List Vehicle). getD t (a .i) unused) (blank .ensures) in
     let new = c .vehicle-word .ensures .1 ∙ c .before .turned .ensures ∙ ap (turned (a .to)) (c .before .before .vehicle-in .ensures ∙ there) in
-    place-set mid (a .i) (c .vehicle-word .result)
-    ∙ ap₂ (λ (t : List Vehicle) (v : Vehicle). set t (a .i) v) (blanked .ensures .0) new
-    ∙ turned-there (a .to) l (a .i) (omega arith) (omega arith)
+    place-set (blank .last .0) (a .i) (c .vehicle-word .result)
+    ∙ ap₂ (λ (t : List Vehicle) (v : Vehicle). set t (a .i) v) (blank .ensures) new
+    ∙ turned-there (a .to) (take (a .len) places) (a .i) (omega arith) (omega arith)
 
 returns-2 : tie.Need-returns-2
 returns-2 c =
-    let a = c .before .before .before .args in
-    let l = take (a .len) (vehiclesIn (a .line .now)) in
-    c .before .blank .ensures .0 ∙ ap (padTo 24) (sym (turn-past (a .to) (a .i) l (omega (arith, length-take (a .len) (vehiclesIn (a .line .now))))))
+    let a = c .before .before .before .before .before .args in
+    let places = vehiclesIn (a .line .now) in
+    c .before .blank .ensures ∙ ap (padTo 24) (sym (turn-past (a .to) (a .i) (take (a .len) places) (omega (arith, length-take (a .len) places))))
 
 pub turn-spec : {M : Type 1} → statement M
 turn-spec =

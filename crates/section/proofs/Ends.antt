@@ -1,13 +1,13 @@
--- The ends of the line among the places: the vehicle nearest a station, and the places after one has entered or left there.
--- Each law goes by the station, A at the first place and B at the last used.
+-- The ends of the line among the places: the vehicle nearest a station, and the places after one has entered or left there, or two have met.
+-- Each law goes by the station, A at the first place and B at the last used; the words then hold the section of the new line.
 -- Assumes nothing.
 use Prim.Native.Nat.{_+_, _-_, _<_, _≤_, min, suc, ℕ}
 use Rattle.section.proofs.Packing.{one-back}
 use Rattle.section.proofs.Pads.{pad-cons, pad-set, pad-snoc, pad-tail}
 use Rattle.section.proofs.Passes.{take-present}
+use Rattle.section.specs.Words.{sectionIn, vehiclesIn}
 use Rattle.working.proofs.Made.{line-with}
 use Rattle.working.proofs.Meeting.{turn-length, turn-set}
-use Rattle.section.specs.Words.{sectionIn, vehiclesIn}
 use Rattle.working.specs.Sections.{emptied, freshDesk, insertAt, nearestAt, padTo, removeAt, unused, withDesk, withLine}
 use Rattle.working.specs.Steps.{metAt, turnAt, turned}
 use Rattle.working.specs.WellMade.{oneIf}
@@ -17,7 +17,7 @@ use Rattle.working.specs.declared.Vehicle.{Vehicle}
 use lib.ListN.{drop, getD, length, length-append, length-drop, length-take, set, take}
 use lib.Seq.{getD-take, length-take-le, set-out, take-take}
 use mathlib.Core.Bool.{Bool}
-use mathlib.Core.List.{List, [], _++_, _∷_}
+use mathlib.Core.List.{List, [], _∷_}
 use mathlib.Core.Path.{_∙_, _≡_, ap, ap₂, refl, sym}
 use native.Mathlib.Numerals.{add-one}
 use native.Mathlib.Omega.{arith}

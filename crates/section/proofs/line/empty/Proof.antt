@@ -3,11 +3,10 @@
 use Rattle.section.proofs.Ends.{emptied-in}
 use Rattle.section.proofs.line.empty.Statement.{statement}
 use Rattle.section.proofs.line.empty.Tie as tie
-use Rattle.section.specs.Words.{sectionIn}
 use Rattle.working.specs.Sections.{withDesk}
 use Rattle.working.specs.declared.Desk.{Desk}
 use Rattle.working.specs.declared.Section.{Section}
-use Rattle.working.specs.declared.Station.the-variants.{A, B}
+use Rattle.working.specs.declared.Station.the-variants.{B}
 use borrow.Author.Needs.{needs}
 use lib.ListN.{length}
 use mathlib.Core.Path.{_∙_, _≡_, ap₂}

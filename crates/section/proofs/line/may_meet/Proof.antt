@@ -1,6 +1,6 @@
 -- `section::line::may_meet` meets its contract: off the line the first test fails, and on it the code joins the others in their order.
 -- Assumes nothing.
-use Prim.Native.Nat.{_+_, _<_, _≤_}
+use Prim.Native.Nat.{_+_, _<_}
 use Rattle.section.proofs.Ends.{line-length}
 use Rattle.section.proofs.Mapping.{place-at, places-length}
 use Rattle.section.proofs.line.may_meet.Statement.{statement}

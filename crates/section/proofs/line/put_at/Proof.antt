@@ -6,7 +6,7 @@ use Rattle.section.proofs.line.put_at.Tie as tie
 use Rattle.section.specs.Words.{vehicleIn, vehiclesIn}
 use borrow.Author.Needs.{needs}
 use lib.Seq.{set-out}
-use mathlib.Core.Path.{_≡_, sym}
+use mathlib.Core.Path.{sym}
 use native.Mathlib.Omega.{arith}
 
 mul-line : tie.Need-mul-line

@@ -2,6 +2,7 @@
 -- the words stand for the whole line; the other figures come back because each is in range of its type.
 -- Assumes nothing.
 use Prim.Native.Nat.{_+_, _<_, ℕ}
+use Rattle.section.proofs.Mapping.{place-at, places-length}
 use Rattle.section.proofs.Packing.{one-back}
 use Rattle.section.specs.Words.{sectionIn, vehicleIn, vehiclesIn}
 use Rattle.working.specs.Sections.{unused, withDesk}
@@ -10,9 +11,9 @@ use Rattle.working.specs.declared.Section.{Section}
 use Rattle.working.specs.declared.Station.the-variants.{A, B}
 use Rattle.working.specs.declared.Vehicle.{Vehicle}
 use borrow.Author.Count.{below-more}
-use lib.ListN.{List·getD-map, getD, length, length-map, replicate, set}
+use lib.ListN.{getD, length, replicate, set}
 use lib.Seq.{ext-getD, getD-set-other, getD-set-same}
-use mathlib.Core.List.{List, map}
+use mathlib.Core.List.{List}
 use mathlib.Core.Path.{_∙_, _≡_}
 use native.Mathlib.Nat.{mod-eq-of-lt}
 use native.Mathlib.Omega.{arith}
@@ -28,10 +29,9 @@ stored-more P xs i x d less each here =
 -- words that stand, each, for the vehicle at its place stand for the whole line
 pub line-back : (line : List ℕ) (places : List Vehicle) → length line ≡ length places
     → ((k : ℕ) → k < length line → vehicleIn (getD line k 0) ≡ getD places k unused) → vehiclesIn line ≡ places
-unfolding vehiclesIn
 line-back line places long each =
-    ext-getD unused (map vehicleIn line) places (length-map line vehicleIn ∙ long)
-    (λ k h. List·getD-map vehicleIn line k 0 ∙ each k (rw (length-map line vehicleIn) at h))
+    ext-getD unused (vehiclesIn line) places (places-length line ∙ long)
+    (λ k h. place-at line k ∙ each k (rw (places-length line) at h))
 
 -- a section put word by word into nothing, then its desks
 pub figures-back : (line : List ℕ) (s : Section) → vehiclesIn line ≡ s .vehicles → s .refused < 4294967296

@@ -1,5 +1,6 @@
 pub mod Ends
 pub mod Keeping
+pub mod Mapping
 pub mod Packing
 pub mod Padding
 pub mod Pads

@@ -1,7 +1,7 @@
 -- The 24 places of a line, and what stands there after a vehicle has entered, left or turned: the places of the line altered so.
 -- By induction on the number of places; only the first places hold vehicles, and the others are unused.
 -- Assumes nothing.
-use Prim.Native.Nat.{_-_, _<_, _≤_, min, suc, zero, ℕ}
+use Prim.Native.Nat.{_<_, _≤_, suc, zero, ℕ}
 use Rattle.working.proofs.Made.{length-padTo}
 use Rattle.working.specs.Sections.{padTo, unused}
 use Rattle.working.specs.declared.Vehicle.{Vehicle}

@@ -1,11 +1,12 @@
 // The vehicles present, the first `len` of the 24 places, in lent words: one enters or leaves at a station's end, and two meet. Behind them every place is
 // left unused, whatever stood there, so that each function is equal to its definition on any section.
+// `let _ = &line[..];` does nothing: seen as a slice, the array shows the proof how many its words are.
 ghost use Prim.Native.Nat.{_-_, _≤_, min};
 ghost use Rattle.section.specs.Words.{sectionIn, vehicleIn, vehiclesIn};
 ghost use Rattle.working.specs.Reasons.{findOf, mayMeet};
 ghost use Rattle.working.specs.Sections.{emptied, insertAt, lineOf, nearestAt, padTo, removeAt, withLine};
 ghost use Rattle.working.specs.Steps.{metAt, turnAt, turned};
-ghost use lib.ListN.{drop, getD, set, take};
+ghost use lib.ListN.{drop, getD, length, set, take};
 ghost use mathlib.Core.Bool.{cond};
 ghost use mathlib.Core.List.{_∷_};
 ghost use mathlib.Core.Path.{_≡_};
@@ -24,9 +25,11 @@ use working::Station;
 use working::Vehicle;
 
 // As many vehicles as there are places for.
-fn present_in(figures: &[u64; 21]) -> usize
-    ensures { λ r. ⌜ r ≡ min (getD (now (figures .entry)) 0 0) 24 ⌝ }
+fn present_in(line: &[u64; 24], figures: &[u64; 21]) -> usize
+    ensures { λ r. ⌜ (r ≡ min (getD (now (figures .entry)) 0 0) 24) × (length (now (line .entry)) ≡ 24) × (length (now (figures .entry)) ≡ 21) ⌝ }
 {
+    let _ = &line[..];
+    let _ = &figures[..];
     let len = figures[LEN] as usize;
     if len < Section::PLACES {
         len
@@ -39,6 +42,7 @@ fn present_in(figures: &[u64; 21]) -> usize
 fn blank(line: &mut [u64; 24], from: usize)
     ensures { λ _. ⌜ vehiclesIn (now (line .exit)) ≡ padTo 24 (take from (vehiclesIn (now (line .entry)))) ⌝ }
 {
+    let _ = &line[..];
     let mut i = from;
     while i < Section::PLACES {
         line[i] = 0;
@@ -50,6 +54,7 @@ fn blank(line: &mut [u64; 24], from: usize)
 fn put_first(line: &mut [u64; 24], word: u64)
     ensures { λ _. ⌜ vehiclesIn (now (line .exit)) ≡ padTo 24 (vehicleIn word ∷ vehiclesIn (now (line .entry))) ⌝ }
 {
+    let _ = &line[..];
     let mut next = word;
     let mut i: usize = 0;
     while i < Section::PLACES {
@@ -64,6 +69,7 @@ fn put_first(line: &mut [u64; 24], word: u64)
 fn drop_first(line: &mut [u64; 24])
     ensures { λ _. ⌜ vehiclesIn (now (line .exit)) ≡ padTo 24 (drop 1 (vehiclesIn (now (line .entry)))) ⌝ }
 {
+    let _ = &line[..];
     let mut next = 0;
     let mut i = Section::PLACES;
     while 0 < i {
@@ -78,6 +84,7 @@ fn drop_first(line: &mut [u64; 24])
 fn put_at(line: &mut [u64; 24], i: usize, word: u64)
     ensures { λ _. ⌜ vehiclesIn (now (line .exit)) ≡ set (vehiclesIn (now (line .entry))) i (vehicleIn word) ⌝ }
 {
+    let _ = &line[..];
     if i < Section::PLACES {
         line[i] = word;
     }
@@ -87,7 +94,7 @@ fn put_at(line: &mut [u64; 24], i: usize, word: u64)
 pub fn insert(line: &mut [u64; 24], figures: &mut [u64; 21], at: Station, v: Vehicle)
     ensures { λ _. ⌜ (let s = sectionIn (now (line .entry)) (now (figures .entry)) in sectionIn (now (line .exit)) (now (figures .exit)) ≡ withLine s (insertAt at v (lineOf s))) ⌝ }
 {
-    let present = present_in(figures);
+    let present = present_in(line, figures);
     let word = vehicle_word(v);
     figures[LEN] = (present + 1) as u64;
     blank(line, present);
@@ -108,7 +115,7 @@ fn fewer(n: usize) -> usize
 pub fn remove(line: &mut [u64; 24], figures: &mut [u64; 21], at: Station)
     ensures { λ _. ⌜ (let s = sectionIn (now (line .entry)) (now (figures .entry)) in sectionIn (now (line .exit)) (now (figures .exit)) ≡ withLine s (removeAt at (lineOf s))) ⌝ }
 {
-    let present = present_in(figures);
+    let present = present_in(line, figures);
     let left = fewer(present);
     figures[LEN] = left as u64;
     match at {
@@ -124,7 +131,7 @@ pub fn remove(line: &mut [u64; 24], figures: &mut [u64; 21], at: Station)
 pub fn nearest(line: &[u64; 24], figures: &[u64; 21], at: Station) -> Vehicle
     ensures { λ r. ⌜ r ≡ nearestAt at (lineOf (sectionIn (now (line .entry)) (now (figures .entry)))) ⌝ }
 {
-    let present = present_in(figures);
+    let present = present_in(line, figures);
     if present == 0 {
         return Vehicle::unused();
     }
@@ -145,7 +152,7 @@ fn place_if(found: bool, i: usize, later: usize) -> usize
 pub fn find(line: &[u64; 24], figures: &[u64; 21], sender: Station, form: u16) -> usize
     ensures { λ r. ⌜ r ≡ findOf sender form (lineOf (sectionIn (now (line .entry)) (now (figures .entry)))) ⌝ }
 {
-    let present = present_in(figures);
+    let present = present_in(line, figures);
     let mut found = present;
     let mut i = present;
     while 0 < i {
@@ -159,7 +166,7 @@ pub fn find(line: &[u64; 24], figures: &[u64; 21], sender: Station, form: u16) -
 pub fn may_meet(line: &[u64; 24], figures: &[u64; 21], i: usize) -> bool
     ensures { λ r. ⌜ r ≡ mayMeet (lineOf (sectionIn (now (line .entry)) (now (figures .entry)))) i ⌝ }
 {
-    let present = present_in(figures);
+    let present = present_in(line, figures);
     if present <= i {
         return false;
     }
@@ -189,6 +196,7 @@ fn turn(line: &mut [u64; 24], len: usize, i: usize, to: Station)
     requires { ⌜ len ≤ 24 ⌝ }
     ensures { λ _. ⌜ vehiclesIn (now (line .exit)) ≡ padTo 24 (turnAt to i (take len (vehiclesIn (now (line .entry))))) ⌝ }
 {
+    let _ = &line[..];
     blank(line, len);
     if i < len {
         let v = turned(vehicle_in(line[i]), to);
@@ -200,7 +208,7 @@ fn turn(line: &mut [u64; 24], len: usize, i: usize, to: Station)
 pub fn meet(line: &mut [u64; 24], figures: &mut [u64; 21], to: Station, i: usize)
     ensures { λ _. ⌜ (let s = sectionIn (now (line .entry)) (now (figures .entry)) in sectionIn (now (line .exit)) (now (figures .exit)) ≡ withLine s (metAt to i (lineOf s))) ⌝ }
 {
-    let present = present_in(figures);
+    let present = present_in(line, figures);
     figures[LEN] = present as u64;
     if present <= i {
         blank(line, present);
@@ -214,6 +222,7 @@ pub fn meet(line: &mut [u64; 24], figures: &mut [u64; 21], to: Station, i: usize
 pub fn empty(line: &mut [u64; 24], figures: &mut [u64; 21], force: bool)
     ensures { λ _. ⌜ sectionIn (now (line .exit)) (now (figures .exit)) ≡ emptied force (sectionIn (now (line .entry)) (now (figures .entry)) .refused) ⌝ }
 {
+    let _ = &figures[..];
     blank(line, 0);
     figures[LEN] = 0;
     figures[FORCE] = word_if(force);

@@ -1,22 +1,15 @@
--- The parts of document 01's tests and effects that several kinds share, and what a departure that is allowed may rely on.
+-- The parts of document 01's effects that several kinds share, and what a departure that is allowed may rely on.
 use Prim.Native.Nat.{_<_, ℕ}
 use Rattle.working.specs.Effects.{departed, desk, ifAny, openSpeed, received}
 use Rattle.working.specs.Reasons.{openTests}
-use Rattle.working.specs.Refusals.{firstOf, orElse}
+use Rattle.working.specs.Refusals.{firstOf}
 use Rattle.working.specs.Steps.{unlessRefused}
 use Rattle.working.specs.declared.Desk.{Desk}
 use Rattle.working.specs.declared.Movement.{Movement}
 use Rattle.working.specs.declared.Plan.the-variants.{Depart}
 use Rattle.working.specs.declared.Plan.{Plan}
-use Rattle.working.specs.declared.Refusal.the-variants.{BeforeClock, NotInForce}
-use Rattle.working.specs.declared.Verdict.{Verdict}
 use Rattle.working.specs.declared.View.{View}
-use lib.Dec.{ltb}
-use mathlib.Core.Bool.{Bool, not}
-
--- 7 and 9, then the later tests
-abbrev pub inTime : Bool → ℕ → ℕ → Verdict → Verdict
-inTime force clock time later = orElse (not force) NotInForce (orElse (ltb time clock) BeforeClock later)
+use mathlib.Core.Bool.{Bool}
 
 -- one more vehicle may be sent, and one more form number issued
 pub record Room (d : Desk) : Type 0 where

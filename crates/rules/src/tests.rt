@@ -1,5 +1,4 @@
 // What each kind is refused for. A function scans document 01's list of tests from the last to the first, so the first that holds is given.
-ghost use Rattle.rules.specs.Rules.{inTime};
 ghost use Rattle.working.specs.Reasons.{departTests, isUnder, mayEnter, openTests, receiveTests, returnTests, trainTests};
 ghost use Rattle.working.specs.Refusals.{firstOf};
 ghost use mathlib.Core.Path.{_≡_};
@@ -12,14 +11,6 @@ use working::Refusal;
 use working::Station;
 use working::Vehicle;
 use working::Verdict;
-
-// 7 and 9, which come before all other tests of a station's act.
-fn in_time(force: bool, clock: u16, time: u16, later: Verdict) -> Verdict
-    ensures { λ r. ⌜ r ≡ inTime force clock time later ⌝ }
-{
-    let v = Verdict::refuse_if(time < clock, Refusal::BeforeClock, later);
-    Verdict::refuse_if(!force, Refusal::NotInForce, v)
-}
 
 // Whether the interval is running, under 30 minutes. The sum is taken in 32 bits: an interval may begin in the last minutes of the clock.
 fn is_under(interval: Interval, time: u16) -> bool
@@ -54,7 +45,8 @@ pub(crate) fn open_verdict(force: bool, d: Desk, time: u16) -> Verdict
     let v = Verdict::refuse_if(0 < d.owes, Refusal::OwesLineClear, v);
     let v = Verdict::refuse_if(0 < d.holds, Refusal::HoldsLineClear, v);
     let v = Verdict::refuse_if(d.out, Refusal::OpenerAway, v);
-    in_time(force, d.clock, time, v)
+    let v = Verdict::refuse_if(time < d.clock, Refusal::BeforeClock, v);
+    Verdict::refuse_if(!force, Refusal::NotInForce, v)
 }
 
 pub(crate) fn return_verdict(force: bool, d: Desk, time: u16, granted: u8) -> Verdict
@@ -64,17 +56,21 @@ pub(crate) fn return_verdict(force: bool, d: Desk, time: u16, granted: u8) -> Ve
     let v = Verdict::refuse_if(d.asked < granted, Refusal::GrantNotAllowed, v);
     let v = Verdict::refuse_if(d.guest == 0, Refusal::NoGuest, v);
     let v = Verdict::refuse_if(0 < d.holds, Refusal::HoldsLineClear, v);
-    in_time(force, d.clock, time, v)
+    let v = Verdict::refuse_if(time < d.clock, Refusal::BeforeClock, v);
+    Verdict::refuse_if(!force, Refusal::NotInForce, v)
 }
 
 pub(crate) fn train_verdict(force: bool, d: Desk, time: u16, granted: u8) -> Verdict
     ensures { λ r. ⌜ r ≡ firstOf (trainTests force d time granted) ⌝ }
 {
+    let early = time < d.clock;
+    let uncleared = d.holds == 0;
     let beyond = (d.asked < granted) | ((0 < granted) & (1 < d.holds));
     let v = departure_verdict(d, time);
     let v = Verdict::refuse_if(beyond, Refusal::GrantNotAllowed, v);
-    let v = Verdict::refuse_if(d.holds == 0, Refusal::NoLineClear, v);
-    in_time(force, d.clock, time, v)
+    let v = Verdict::refuse_if(uncleared, Refusal::NoLineClear, v);
+    let v = Verdict::refuse_if(early, Refusal::BeforeClock, v);
+    Verdict::refuse_if(!force, Refusal::NotInForce, v)
 }
 
 // A station's own must be OPEN or THROUGH, unmet or heading to it; the other's must head to it.
@@ -108,5 +104,6 @@ pub(crate) fn receive_verdict(
         Verdict::Allowed,
     );
     let v = Verdict::refuse_if(!is_named(sender, form, nearest), Refusal::NotNearest, v);
-    in_time(force, d.clock, time, v)
+    let v = Verdict::refuse_if(time < d.clock, Refusal::BeforeClock, v);
+    Verdict::refuse_if(!force, Refusal::NotInForce, v)
 }

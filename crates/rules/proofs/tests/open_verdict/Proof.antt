@@ -19,15 +19,20 @@ refuse-if-requires-3 c κs = search needs
 refuse-if-requires-4 : tie.Need-refuse-if-requires-4
 refuse-if-requires-4 c κs = search needs
 
-in-time-requires : tie.Need-in-time-requires
-in-time-requires c κs = search needs
+refuse-if-requires-5 : tie.Need-refuse-if-requires-5
+refuse-if-requires-5 c κs = search needs
+
+refuse-if-requires-6 : tie.Need-refuse-if-requires-6
+refuse-if-requires-6 c κs = search needs
 
 returns : tie.Need-returns
 returns c =
-    let holds = c .before .before in
+    let early = c .before in
+    let out = early .before .before in
+    let holds = out .before in
     let owes = holds .before .before in
     let guest = owes .before .before in
-    rw (c .in-time .ensures, c .before .refuse-if4 .ensures, holds .refuse-if3 .ensures, owes .refuse-if2 .ensures, guest .refuse-if .ensures, guest .before .before .departure-verdict .ensures)
+    rw (c .refuse-if6 .ensures, early .refuse-if5 .ensures, out .refuse-if4 .ensures, holds .refuse-if3 .ensures, owes .refuse-if2 .ensures, guest .refuse-if .ensures, guest .before .before .departure-verdict .ensures)
 
 pub open-verdict-spec : {M : Type 1} → statement M
 open-verdict-spec =
@@ -38,5 +43,6 @@ open-verdict-spec =
     refuse-if-requires-2
     refuse-if-requires-3
     refuse-if-requires-4
-    in-time-requires
+    refuse-if-requires-5
+    refuse-if-requires-6
     returns)

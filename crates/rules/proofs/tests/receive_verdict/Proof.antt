@@ -16,13 +16,18 @@ is-named-requires c κs = search needs
 refuse-if-requires-2 : tie.Need-refuse-if-requires-2
 refuse-if-requires-2 c κs = search needs
 
-in-time-requires : tie.Need-in-time-requires
-in-time-requires c κs = search needs
+refuse-if-requires-3 : tie.Need-refuse-if-requires-3
+refuse-if-requires-3 c κs = search needs
+
+refuse-if-requires-4 : tie.Need-refuse-if-requires-4
+refuse-if-requires-4 c κs = search needs
 
 returns : tie.Need-returns
 returns c =
-    let entry = c .before .before .before in
-    rw (c .in-time .ensures, c .before .refuse-if2 .ensures, c .before .before .is-named .ensures, entry .refuse-if .ensures, entry .before .may-enter .ensures)
+    let early = c .before in
+    let named = early .before .before in
+    let entry = named .before .before in
+    rw (c .refuse-if4 .ensures, early .refuse-if3 .ensures, named .refuse-if2 .ensures, named .before .is-named .ensures, entry .refuse-if .ensures, entry .before .may-enter .ensures)
 
 pub receive-verdict-spec : {M : Type 1} → statement M
 receive-verdict-spec =
@@ -32,5 +37,6 @@ receive-verdict-spec =
     refuse-if-requires
     is-named-requires
     refuse-if-requires-2
-    in-time-requires
+    refuse-if-requires-3
+    refuse-if-requires-4
     returns)

@@ -16,14 +16,19 @@ refuse-if-requires-2 c κs = search needs
 refuse-if-requires-3 : tie.Need-refuse-if-requires-3
 refuse-if-requires-3 c κs = search needs
 
-in-time-requires : tie.Need-in-time-requires
-in-time-requires c κs = search needs
+refuse-if-requires-4 : tie.Need-refuse-if-requires-4
+refuse-if-requires-4 c κs = search needs
+
+refuse-if-requires-5 : tie.Need-refuse-if-requires-5
+refuse-if-requires-5 c κs = search needs
 
 returns : tie.Need-returns
 returns c =
-    let guest = c .before .before .before in
+    let early = c .before in
+    let holds = early .before .before in
+    let guest = holds .before .before in
     let grant = guest .before .before in
-    rw (c .in-time .ensures, c .before .refuse-if3 .ensures, guest .refuse-if2 .ensures, grant .refuse-if .ensures, grant .before .before .departure-verdict .ensures)
+    rw (c .refuse-if5 .ensures, early .refuse-if4 .ensures, holds .refuse-if3 .ensures, guest .refuse-if2 .ensures, grant .refuse-if .ensures, grant .before .before .departure-verdict .ensures)
 
 pub return-verdict-spec : {M : Type 1} → statement M
 return-verdict-spec =
@@ -33,5 +38,6 @@ return-verdict-spec =
     refuse-if-requires
     refuse-if-requires-2
     refuse-if-requires-3
-    in-time-requires
+    refuse-if-requires-4
+    refuse-if-requires-5
     returns)

@@ -13,13 +13,18 @@ refuse-if-requires c κs = search needs
 refuse-if-requires-2 : tie.Need-refuse-if-requires-2
 refuse-if-requires-2 c κs = search needs
 
-in-time-requires : tie.Need-in-time-requires
-in-time-requires c κs = search needs
+refuse-if-requires-3 : tie.Need-refuse-if-requires-3
+refuse-if-requires-3 c κs = search needs
+
+refuse-if-requires-4 : tie.Need-refuse-if-requires-4
+refuse-if-requires-4 c κs = search needs
 
 returns : tie.Need-returns
 returns c =
-    let grant = c .before .before .before in
-    rw (c .in-time .ensures, c .before .refuse-if2 .ensures, grant .refuse-if .ensures, grant .before .departure-verdict .ensures)
+    let early = c .before in
+    let uncleared = early .before in
+    let beyond = uncleared .before in
+    rw (c .refuse-if4 .ensures, early .refuse-if3 .ensures, uncleared .refuse-if2 .ensures, beyond .refuse-if .ensures, beyond .before .departure-verdict .ensures)
 
 pub train-verdict-spec : {M : Type 1} → statement M
 train-verdict-spec =
@@ -28,5 +33,6 @@ train-verdict-spec =
     departure-verdict-requires
     refuse-if-requires
     refuse-if-requires-2
-    in-time-requires
+    refuse-if-requires-3
+    refuse-if-requires-4
     returns)

@@ -1,9 +1,2 @@
-pub mod Ends
-pub mod Keeping
-pub mod Mapping
-pub mod Packing
-pub mod Padding
-pub mod Pads
 pub mod Passes
-pub mod Stored
 pub mod Tallies

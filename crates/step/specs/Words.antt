@@ -1,6 +1,6 @@
 -- What a function on a section in lent words answers and leaves, by the step that it takes.
 use Prim.Native.Nat.{ℕ}
-use Rattle.section.specs.Words.{sectionIn}
+use Rattle.words.specs.Words.{sectionIn}
 use Rattle.working.specs.declared.Answer.{Answer}
 use Rattle.working.specs.declared.Section.{Section}
 use Rattle.working.specs.declared.Stepped.{Stepped}

@@ -3,7 +3,7 @@
 use Rattle.step.proofs.Scans.{first-test, next-test}
 use Rattle.step.proofs.acting.begin.Statement.{statement}
 use Rattle.step.proofs.acting.begin.Tie as tie
-use Rattle.section.specs.Words.{sectionIn}
+use Rattle.words.specs.Words.{sectionIn}
 use Rattle.working.specs.Sections.{emptied}
 use Rattle.working.specs.Steps.{entered}
 use Rattle.working.specs.declared.Refusal.the-variants.{AlreadyInForce}

@@ -4,7 +4,7 @@ use Prim.Native.Nat.{ℕ}
 use Rattle.step.proofs.Scans.{first-test, next-test}
 use Rattle.step.proofs.acting.meet_at.Statement.{statement}
 use Rattle.step.proofs.acting.meet_at.Tie as tie
-use Rattle.section.specs.Words.{sectionIn}
+use Rattle.words.specs.Words.{sectionIn}
 use Rattle.working.specs.Reasons.{findOf, mayMeet, meetTests}
 use Rattle.working.specs.Refusals.{firstOf}
 use Rattle.working.specs.Sections.{lineOf, withLine}

@@ -1,0 +1,17 @@
+-- `words::figures::any_present` meets its contract: the word says so, whatever the line.
+-- Assumes nothing.
+use Rattle.words.proofs.figures.any_present.Statement.{statement}
+use Rattle.words.proofs.figures.any_present.Tie as tie
+use Rattle.words.specs.Words.{sectionIn}
+use borrow.Author.Needs.{needs}
+use mathlib.Core.Path.{refl}
+
+element-copy-out-result : tie.Need-element-copy-out-result
+element-copy-out-result c = search needs
+
+returns : tie.Need-returns
+unfolding sectionIn
+returns c = λ l. refl
+
+pub any-present-spec : {M : Type 1} → statement M
+any-present-spec = tie.close (tie.spec element-copy-out-result returns)

@@ -1,6 +1,6 @@
 // The lines of a listing.
 ghost use Prim.Native.Nat.{_+_, _≤_};
-ghost use Rattle.listing.specs.Lines.{answerText, deskText, endLine, kindOf, letterAt, lineOf, longLine, longestLine, speedText, stationOf};
+ghost use Rattle.listing.specs.Lines.{answerText, deskText, endLine, letterAt, lineWith, longLine, longestLine, speedText};
 ghost use Rattle.listing.specs.Text.{Puts};
 ghost use lib.ListN.{length};
 ghost use mathlib.Core.Path.{_≡_};
@@ -11,31 +11,8 @@ use crate::text::put_three;
 use crate::text::put_two;
 use working::Answer;
 use working::Desk;
-use working::Read;
 use working::Section;
 use working::Speed;
-
-// The kind of an entry that is taken; refusals 1 to 4 print 0.
-pub(crate) fn kind_of(read: Read) -> u8
-    ensures { λ r. ⌜ r ≡ kindOf read ⌝ }
-{
-    match read {
-        Read::End => 0,
-        Read::Whole(e, _) => e.kind,
-        Read::Refused(_, _) => 0,
-    }
-}
-
-// The station's number, and 0 where an entry has none, as in BEGIN, RESUME and one that is not taken.
-pub(crate) fn station_of(read: Read) -> u8
-    ensures { λ r. ⌜ r ≡ stationOf read ⌝ }
-{
-    match read {
-        Read::End => 0,
-        Read::Whole(e, _) => e.station,
-        Read::Refused(_, _) => 0,
-    }
-}
 
 // A station's letter, and - where there is none.
 pub(crate) fn letter_at(station: u8) -> u8
@@ -87,15 +64,16 @@ pub(crate) fn put_line(
     block: &mut [u8],
     at: usize,
     number: usize,
-    read: Read,
+    kind: u8,
+    station: u8,
     answer: Answer,
 ) -> usize
     requires { ⌜ at + longestLine ≤ length (now block) ⌝ }
-    ensures { λ r. ⌜ Puts (now (block .entry)) at (lineOf number read answer) r (now (block .exit)) ⌝ }
+    ensures { λ r. ⌜ Puts (now (block .entry)) at (lineWith number kind station answer) r (now (block .exit)) ⌝ }
 {
     let at = put_number(block, at, number);
-    let at = put_field(block, at, kind_of(read) as usize);
-    let at = put_two(block, at, b' ', letter_at(station_of(read)));
+    let at = put_field(block, at, kind as usize);
+    let at = put_two(block, at, b' ', letter_at(station));
     let at = put_answer(block, at, answer);
     put(block, at, b'\n')
 }

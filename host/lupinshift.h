@@ -40,6 +40,10 @@ size_t lupin_figures(const uint8_t *log, size_t log_len, uint64_t *figures, size
    A log of any length is run. */
 uint32_t lupin_answer(const uint8_t *log, size_t log_len);
 
+/* How many entries of the log are taken: whole, of a known kind, with the right map and the fields in range. After refusals 2, 3 and 4
+   reading goes on behind the entry, after 1 it stops. A log of any length is read, and nothing is stepped. */
+size_t lupin_taken(const uint8_t *log, size_t log_len);
+
 #ifdef __cplusplus
 }
 #endif

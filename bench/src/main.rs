@@ -2,12 +2,15 @@
 //! process and in turns, and prints medians, their ratio, and the ratio
 //! of the fastest rounds, which other work on the machine disturbs least.
 
+#[path = "../../host/examples/shared/mod.rs"]
+mod shared;
+
 use std::hint::black_box;
 use std::process::ExitCode;
 use std::time::{Duration, Instant};
 
-use second::generator::{log, Options};
-use second::Run;
+use second::generator::log;
+use shared::{figures_of, sorts, taken_of};
 
 const USAGE: &str = "usage: bench [ROUNDS]";
 const LONGEST: usize = lupinshift::LONGEST_LOG;
@@ -29,16 +32,21 @@ struct Job {
     second: Work,
 }
 
-const JOBS: [Job; 2] = [
+const JOBS: [Job; 3] = [
+    Job {
+        name: "read",
+        proved: |log, _| lupinshift::taken(log) as u64,
+        second: |log, _| taken_of(log) as u64,
+    },
     Job {
         name: "run",
-        proved: proved_run,
-        second: second_run,
+        proved: |log, _| mixed(lupinshift::figures(log)),
+        second: |log, _| mixed(figures_of(log)),
     },
     Job {
         name: "listing",
-        proved: proved_listing,
-        second: second_listing,
+        proved: |log, out| lupinshift::list_into(log, out) as u64,
+        second: |log, _| second::list(log).len() as u64,
     },
 ];
 
@@ -65,22 +73,8 @@ fn main() -> ExitCode {
 }
 
 fn cases() -> [Case; 4] {
-    let plain = Options {
-        bytes: Some(LONGEST),
-        ..Options::default()
-    };
-    let accepted = Options {
-        accepted: true,
-        ..plain
-    };
-    let full = Options {
-        full: true,
-        ..plain
-    };
-    let short = Options {
-        bytes: None,
-        ..plain
-    };
+    let [short, ..] = sorts(None);
+    let [_, accepted, full] = sorts(Some(LONGEST));
     [
         Case {
             name: "300 entries",
@@ -146,31 +140,8 @@ fn shown(times: [Duration; 3]) -> String {
     format!("{median:.1} ({fastest:.1}-{high:.1})")
 }
 
-/// One number of the entries, the refused ones and the vehicles present.
-fn mixed(entries: u64, refused: u64, present: u64) -> u64 {
-    (entries << 32) + (refused << 8) + present
-}
-
-fn proved_run(log: &[u8], _: &mut [u8]) -> u64 {
-    let figures = lupinshift::figures(log);
-    mixed(figures[0], figures[2], figures[3])
-}
-
-fn second_run(log: &[u8], _: &mut [u8]) -> u64 {
-    let mut run = Run::new(log);
-    let entries = run.by_ref().count();
-    let section = run.section();
-    mixed(
-        entries as u64,
-        section.refused.into(),
-        section.present as u64,
-    )
-}
-
-fn proved_listing(log: &[u8], out: &mut [u8]) -> u64 {
-    lupinshift::list_into(log, out) as u64
-}
-
-fn second_listing(log: &[u8], _: &mut [u8]) -> u64 {
-    second::list(log).len() as u64
+/// One number of the eight figures.
+fn mixed(figures: [u64; 8]) -> u64 {
+    let next = |sum: u64, figure| sum.wrapping_mul(65_537).wrapping_add(figure);
+    figures.into_iter().fold(0, next)
 }

@@ -1,12 +1,15 @@
 //! Runs the proved library and the second program on the same logs, in memory,
 //! and stops at the first difference.
 
+mod shared;
+
 use std::process::ExitCode;
 
 use lupinshift::LONGEST_LINE;
 use second::generator::{log, Options};
 use second::random::Random;
 use second::Run;
+use shared::{figures_of, sorts, taken_of};
 
 const USAGE: &str = "usage: compare LOGS";
 
@@ -41,15 +44,7 @@ fn main() -> ExitCode {
 /// longest length or just over it.
 fn any_log(seed: u64, random: &mut Random) -> Vec<u8> {
     let entries = random.below(600) as usize;
-    let plain = Options::default();
-    let accepted = Options {
-        accepted: true,
-        ..plain
-    };
-    let full = Options {
-        full: true,
-        ..plain
-    };
+    let [plain, accepted, full] = sorts(None);
     match seed % 10 {
         0..=2 => log(seed, entries, plain),
         3 => log(seed, entries, accepted),
@@ -87,14 +82,8 @@ fn damaged(mut log: Vec<u8>, random: &mut Random) -> Vec<u8> {
 /// A log of about the longest length: one byte less, as long, or one more.
 fn long_log(seed: u64, random: &mut Random) -> Vec<u8> {
     let bytes = lupinshift::LONGEST_LOG - 1 + random.below(3) as usize;
-    let made = log(
-        seed,
-        bytes,
-        Options {
-            bytes: Some(bytes),
-            ..Options::default()
-        },
-    );
+    let [plain, ..] = sorts(Some(bytes));
+    let made = log(seed, bytes, plain);
     if random.chance(50) {
         made
     } else {
@@ -127,6 +116,9 @@ fn compare(log: &[u8], random: &mut Random) -> Result<u64, &'static str> {
     if lupinshift::answer(log) != answer_of(log) {
         return Err("the last answer");
     }
+    if lupinshift::taken(log) != taken_of(log) {
+        return Err("the entries taken");
+    }
     let mut few = [7; 7];
     if lupinshift::figures_into(log, &mut few) != 0 || few != [7; 7] {
         return Err("seven figures");
@@ -152,27 +144,6 @@ fn lines_in(listing: &[u8], room: usize) -> (usize, Vec<u8>) {
     let mut out = vec![BEFORE; room];
     out[..put].copy_from_slice(&listing[..put]);
     (if put == listing.len() { put } else { 0 }, out)
-}
-
-/// The figures of a log's last line, by the second program.
-fn figures_of(log: &[u8]) -> [u64; 8] {
-    let mut run = Run::new(log);
-    let entries = run.by_ref().count() as u64;
-    let section = run.section();
-    let refused = u64::from(section.refused);
-    let [a, b] = &section.desks;
-    let clears = [a.holds, a.owes, b.holds, b.owes].map(u64::from);
-    let [first, second, third, fourth] = clears;
-    [
-        entries,
-        entries - refused,
-        refused,
-        section.present as u64,
-        first,
-        second,
-        third,
-        fourth,
-    ]
 }
 
 /// The number of the refusal that answers the last entry, by the second

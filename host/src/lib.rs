@@ -16,6 +16,7 @@ mod exported {
             figures_len: usize,
         ) -> usize;
         pub fn lupin_answer(log: *const u8, log_len: usize) -> u32;
+        pub fn lupin_taken(log: *const u8, log_len: usize) -> usize;
     }
 }
 
@@ -78,4 +79,13 @@ pub fn figures(log: &[u8]) -> [u64; 8] {
 pub fn answer(log: &[u8]) -> u32 {
     // SAFETY: it is a whole slice.
     unsafe { exported::lupin_answer(log.as_ptr(), log.len()) }
+}
+
+/// How many entries of the log are taken: whole, of a known kind, with the
+/// right map and the fields in range. After refusals 2, 3 and 4 reading goes
+/// on behind the entry, after 1 it stops.
+#[must_use]
+pub fn taken(log: &[u8]) -> usize {
+    // SAFETY: it is a whole slice.
+    unsafe { exported::lupin_taken(log.as_ptr(), log.len()) }
 }

@@ -1,5 +1,6 @@
-// Functions for a host in C or Rust: a log's listing, its last line alone, as text and as figures, and the answer to its last entry. Byte slices and numbers only; host/lupinshift.h declares them.
+// Functions for a host in C or Rust: a log's listing, its last line alone, as text and as figures, the answer to its last entry, and how many of its entries are taken. Byte slices and numbers only; host/lupinshift.h declares them.
 ghost use Rattle.host.specs.Answers.{Ends, Figures, Lists, lastOf, ranOf, refusalOf};
+ghost use Rattle.step.specs.Running.{takenIn};
 ghost use mathlib.Core.Path.{_≡_};
 use listing::Listing;
 use step::Last;
@@ -93,4 +94,12 @@ pub extern "C" fn lupin_answer(log: &[u8]) -> u32
     let ran = step::run(Section::fresh(), log, log.len());
     let last = ran.last;
     last_of(last)
+}
+
+// How many entries of a log are taken by its reader: whole, of a known kind, with the right map and the fields in range. A log of any length is read, and nothing is stepped.
+#[no_mangle]
+pub extern "C" fn lupin_taken(log: &[u8]) -> usize
+    ensures { λ r. ⌜ r ≡ takenIn (now (log .entry)) ⌝ }
+{
+    step::taken(log)
 }

@@ -3,4 +3,5 @@ pub mod Ending
 pub mod Examples
 pub mod Filling
 pub mod Putting
+pub mod Turning
 pub mod Whole

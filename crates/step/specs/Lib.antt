@@ -1,2 +1,3 @@
+pub mod Acts
 pub mod Running
 pub mod Words

@@ -2,14 +2,15 @@
 ghost use Prim.Native.Nat.{ℕ};
 ghost use Rattle.words.specs.Words.{sectionIn};
 ghost use Rattle.step.specs.Words.{Leaves, LeavesIn};
-ghost use Rattle.working.specs.Events.{decodedAs};
+ghost use Rattle.working.specs.Events.{decodedAs, eventOf};
 ghost use Rattle.working.specs.Steps.{doneBy, entered, onDecoded, refused};
 ghost use Rattle.working.specs.declared.Answer.the-variants.{Accepted};
 ghost use Rattle.working.specs.declared.Event.the-variants.{At, Begin, Meet, Resume};
 ghost use Rattle.working.specs.declared.Speed.the-variants.{NoSpeed};
 ghost use mathlib.Core.List.{List};
 ghost use mathlib.Core.Path.{_≡_};
-use crate::events::event_of;
+use crate::events::act_of;
+use crate::events::station_of;
 use words::any_present;
 use words::count_refusal;
 use words::desk;
@@ -24,7 +25,7 @@ use words::put_desk;
 use words::remove;
 use working::Act;
 use working::Answer;
-use working::Event;
+use working::Entry;
 use working::Plan;
 use working::Read;
 use working::Refusal;
@@ -133,20 +134,22 @@ fn act_at(line: &mut [u64; 24], figures: &mut [u64; 21], at: Station, time: u16,
     act_by(line, figures, at, plan)
 }
 
-// The event's answer; the section after it is left in the words. Whether the section is well made is not looked at here.
-pub fn enter_in(line: &mut [u64; 24], figures: &mut [u64; 21], event: Event) -> Answer
-    ensures { λ r. ⌜ LeavesIn (now (line .entry)) (now (figures .entry)) (λ s. entered s event) r (now (line .exit)) (now (figures .exit)) ⌝ }
+// The answer to an entry that is taken; the section after it is left in the words. Whether the section is well made is not looked at here.
+pub fn enter_in(line: &mut [u64; 24], figures: &mut [u64; 21], e: Entry) -> Answer
+    ensures { λ r. ⌜ LeavesIn (now (line .entry)) (now (figures .entry)) (λ s. entered s (eventOf e)) r (now (line .exit)) (now (figures .exit)) ⌝ }
 {
-    match event {
-        Event::Begin => begin(line, figures),
-        Event::At { station, time, act } => act_at(line, figures, station, time, act),
-        Event::Meet {
-            station,
-            sender,
-            form,
-        } => meet_at(line, figures, station, sender, form),
-        Event::Resume => resume(line, figures),
+    let kind = e.kind;
+    if kind == 1 {
+        return begin(line, figures);
     }
+    let at = station_of(e.station);
+    if kind == 7 {
+        return meet_at(line, figures, at, station_of(e.sender), e.number);
+    }
+    if (2 <= kind) & (kind <= 6) {
+        return act_at(line, figures, at, e.time, act_of(e));
+    }
+    resume(line, figures)
 }
 
 // The answer to what was read at some place; the section after it is left in the words: for those who read a log themselves and print or count as they go, from a
@@ -156,7 +159,7 @@ pub fn answer_in(line: &mut [u64; 24], figures: &mut [u64; 21], read: Read) -> A
 {
     match read {
         Read::End => refuse(figures, Refusal::EndsInside),
-        Read::Whole(e, _) => enter_in(line, figures, event_of(e)),
+        Read::Whole(e, _) => enter_in(line, figures, e),
         Read::Refused(why, _) => refuse(figures, why),
     }
 }

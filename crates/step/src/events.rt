@@ -1,15 +1,14 @@
-// What an entry that is taken says: its kind, with its numbers read as stations and views.
+// What the station of an entry does: its kind, with its numbers read as stations and views.
 ghost use mathlib.Core.Path.{_≡_};
 ghost use Rattle.working.specs.declared.Act.the-variants.{Opens, Passes, Receives, Returns, Runs};
-ghost use Rattle.working.specs.declared.Event.the-variants.{At, Meet};
-ghost use Rattle.working.specs.Events.{eventOf, stationOf, viewOf};
+ghost use Rattle.step.specs.Acts.{actOf};
+ghost use Rattle.working.specs.Events.{stationOf, viewOf};
 use working::Act;
 use working::Entry;
-use working::Event;
 use working::Station;
 use working::View;
 
-fn station_of(number: u8) -> Station
+pub(crate) fn station_of(number: u8) -> Station
     ensures { λ r. ⌜ r ≡ stationOf number ⌝ }
 {
     if number == 1 { Station::A } else { Station::B }
@@ -74,49 +73,22 @@ fn receives(e: Entry) -> Act
     }
 }
 
-// An act of the entry's station at its time.
-fn at(e: Entry, act: Act) -> Event
-    ensures { λ r. ⌜ r ≡ At (stationOf (e .station)) (e .time) act ⌝ }
-{
-    Event::At {
-        station: station_of(e.station),
-        time: e.time,
-        act,
-    }
-}
-
-fn meets(e: Entry) -> Event
-    ensures { λ r. ⌜ r ≡ Meet (stationOf (e .station)) (stationOf (e .sender)) (e .number) ⌝ }
-{
-    Event::Meet {
-        station: station_of(e.station),
-        sender: station_of(e.sender),
-        form: e.number,
-    }
-}
-
-// The event of an entry that is taken; of any other, whatever its numbers read as.
-pub fn event_of(e: Entry) -> Event
-    ensures { λ r. ⌜ r ≡ eventOf e ⌝ }
+// What the station of an entry of kind 2 to 6 does.
+pub(crate) fn act_of(e: Entry) -> Act
+    ensures { λ r. ⌜ r ≡ actOf e ⌝ }
 {
     let kind = e.kind;
-    if kind == 1 {
-        return Event::Begin;
-    }
     if kind == 2 {
-        return at(e, opens(e));
+        return opens(e);
     }
     if kind == 3 {
-        return at(e, passes(e));
+        return passes(e);
     }
     if kind == 4 {
-        return at(e, returns(e));
+        return returns(e);
     }
     if kind == 5 {
-        return at(e, runs(e));
+        return runs(e);
     }
-    if kind == 6 {
-        return at(e, receives(e));
-    }
-    if kind == 7 { meets(e) } else { Event::Resume }
+    receives(e)
 }

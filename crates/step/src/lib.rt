@@ -7,7 +7,6 @@ mod stepping;
 
 pub use acting::answer_in;
 pub use acting::enter_in;
-pub use events::event_of;
 pub use memory::step_in;
 pub use memory::step_via;
 pub use running::Last;

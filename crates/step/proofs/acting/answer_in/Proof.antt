@@ -1,8 +1,8 @@
 -- `step::acting::answer_in` meets its contract: each arm is the definition's own.
 -- Assumes nothing.
+use borrow.Author.Needs.{needs}
 use Rattle.step.proofs.acting.answer_in.Statement.{statement}
 use Rattle.step.proofs.acting.answer_in.Tie as tie
-use borrow.Author.Needs.{needs}
 
 enum-told : tie.Need-enum-told
 enum-told c = search needs
@@ -12,9 +12,6 @@ refuse-requires c κs = search needs
 
 enum-known-read : tie.Need-enum-known-read
 enum-known-read c = search needs
-
-event-of-requires : tie.Need-event-of-requires
-event-of-requires c κs = search needs
 
 enter-in-requires : tie.Need-enter-in-requires
 enter-in-requires c κs = search needs
@@ -29,9 +26,7 @@ returns : tie.Need-returns
 returns c = rw (c .before .before .enum-told .given .1) (c .refuse .ensures (c .before .before .before .before .args .line .now))
 
 returns-2 : tie.Need-returns-2
-returns-2 c =
-    let at-event = c .before in
-    rw (at-event .before .before .before .before .read .given .1) (rw (at-event .event-of .ensures) at (c .enter-in .ensures))
+returns-2 c = rw (c .before .before .before .before .read .given .1) (c .enter-in .ensures)
 
 returns-3 : tie.Need-returns-3
 returns-3 c = rw (c .before .before .before .read2 .given .1) (c .refuse2 .ensures (c .before .before .before .before .before .args .line .now))
@@ -43,7 +38,6 @@ answer-in-spec =
     enum-told
     refuse-requires
     enum-known-read
-    event-of-requires
     enter-in-requires
     enum-known-read-2
     refuse-requires-2

@@ -1,0 +1,15 @@
+-- What the station of an entry does, by its kind alone: the part of `eventOf` that BEGIN, MEET and RESUME have no share in.
+use Rattle.working.specs.Events.{stationOf, viewOf}
+use Rattle.working.specs.declared.Act.the-variants.{Opens, Passes, Receives, Returns, Runs}
+use Rattle.working.specs.declared.Act.{Act}
+use Rattle.working.specs.declared.Entry.{Entry}
+use lib.Dec.{eqb}
+use mathlib.Core.Bool.{cond}
+
+abbrev pub actOf : Entry → Act
+actOf e =
+    cond (eqb (e .kind) 2) (Opens (viewOf (e .view)) (e .class) (e .asked))
+    (cond (eqb (e .kind) 3) (Passes (viewOf (e .view)))
+    (cond (eqb (e .kind) 4) (Returns (e .asked) (e .granted))
+    (cond (eqb (e .kind) 5) (Runs (viewOf (e .view)) (e .asked) (e .granted))
+    (Receives (stationOf (e .sender)) (e .number)))))

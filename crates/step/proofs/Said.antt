@@ -1,11 +1,17 @@
 -- What an entry of each kind says: with the kind known, the tests of `eventOf` and `actOf` compute.
 -- Assumes nothing.
 use Prim.Native.Nat.{_≤_, suc, zero, ℕ}
-use Rattle.step.specs.Acts.{actOf}
+use Rattle.step.specs.Acts.{actOf, lookedAt}
 use Rattle.working.specs.Events.{eventOf, stationOf, viewOf}
+use Rattle.working.specs.Sections.{lineOf, nearestAt}
+use Rattle.working.specs.Steps.{planOf}
 use Rattle.working.specs.declared.Act.the-variants.{Opens, Passes, Receives, Returns, Runs}
+use Rattle.working.specs.declared.Act.{Act}
+use Rattle.working.specs.declared.Desk.{Desk}
 use Rattle.working.specs.declared.Entry.{Entry}
 use Rattle.working.specs.declared.Event.the-variants.{At, Begin, Meet, Resume}
+use Rattle.working.specs.declared.Section.{Section}
+use Rattle.working.specs.declared.Station.{Station}
 use borrow.Author.Tests.{le-leb, leb-true, ne-eqb}
 use lib.Dec.{leb}
 use mathlib.Core.Bool.{Bool, _&&_, false, true, true≢false}
@@ -72,3 +78,12 @@ resumes-event e n₁ n₇ none =
       ne-eqb (e .kind) 6 (λ h. none (omega arith, omega arith)),
       ne-eqb (e .kind) 7 n₇,
     )
+
+-- ---- and what it is decided by
+
+pub same-plan : (act : Act) (x : Station) (force : Bool) (d : Desk) (time : ℕ) (s : Section) → planOf act x force d time (lookedAt act x s) ≡ planOf act x force d time (nearestAt x (lineOf s))
+same-plan (Opens view class asked) x force d time s = refl
+same-plan (Passes view) x force d time s = refl
+same-plan (Returns asked granted) x force d time s = refl
+same-plan (Runs view asked granted) x force d time s = refl
+same-plan (Receives sender form) x force d time s = refl

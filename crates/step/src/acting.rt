@@ -1,6 +1,7 @@
 // What an event does to a section in lent words and what is answered: a station's act at its own end, and BEGIN, MEET and RESUME.
 ghost use Prim.Native.Nat.{ℕ};
 ghost use Rattle.words.specs.Words.{sectionIn};
+ghost use Rattle.step.specs.Acts.{lookedAt};
 ghost use Rattle.step.specs.Words.{Leaves, LeavesIn};
 ghost use Rattle.working.specs.Events.{decodedAs, eventOf};
 ghost use Rattle.working.specs.Steps.{doneBy, entered, onDecoded, refused};
@@ -31,6 +32,7 @@ use working::Read;
 use working::Refusal;
 use working::Speed;
 use working::Station;
+use working::Vehicle;
 
 // A refusal: one more in the count, and nothing else altered.
 fn refuse(figures: &mut [u64; 21], why: Refusal) -> Answer
@@ -124,12 +126,36 @@ fn meet_at(
     accepted()
 }
 
-// A station's act: decided from its own desk and the vehicle nearest it.
+// The vehicle that an act is decided by: a RECEIVE looks at the one nearest its station, and a departure at none.
+fn looked_at(line: &[u64; 24], figures: &[u64; 21], at: Station, act: Act) -> Vehicle
+    ensures { λ r. ⌜ r ≡ lookedAt act at (sectionIn (now (line .entry)) (now (figures .entry))) ⌝ }
+{
+    match act {
+        Act::Receives { sender: _, form: _ } => nearest(line, figures, at),
+        Act::Opens {
+            view: _,
+            class: _,
+            asked: _,
+        } => Vehicle::unused(),
+        Act::Passes { view: _ } => Vehicle::unused(),
+        Act::Returns {
+            asked: _,
+            granted: _,
+        } => Vehicle::unused(),
+        Act::Runs {
+            view: _,
+            asked: _,
+            granted: _,
+        } => Vehicle::unused(),
+    }
+}
+
+// A station's act: decided from its own desk and, where it is a RECEIVE, the vehicle nearest it.
 fn act_at(line: &mut [u64; 24], figures: &mut [u64; 21], at: Station, time: u16, act: Act) -> Answer
     ensures { λ r. ⌜ LeavesIn (now (line .entry)) (now (figures .entry)) (λ s. entered s (At at time act)) r (now (line .exit)) (now (figures .exit)) ⌝ }
 {
     let d = desk(figures, at);
-    let v = nearest(line, figures, at);
+    let v = looked_at(line, figures, at, act);
     let plan = rules::plan(act, at, in_force(figures), d, time, v);
     act_by(line, figures, at, plan)
 }

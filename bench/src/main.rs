@@ -1,12 +1,13 @@
-//! Times the proved library and the second program on the same logs, in one
-//! process and in turns, and prints medians, their ratio, and the ratio
+//! Times the proved library and the second program on the same logs, in turns,
+//! in one process but for the two listers, and prints medians, their ratio, and the ratio
 //! of the fastest rounds, which other work on the machine disturbs least.
 
 #[path = "../../host/examples/shared/mod.rs"]
 mod shared;
 
 use std::hint::black_box;
-use std::process::ExitCode;
+use std::io::Write;
+use std::process::{Command, ExitCode, Stdio};
 use std::time::{Duration, Instant};
 
 use second::generator::log;
@@ -32,7 +33,7 @@ struct Job {
     second: Work,
 }
 
-const JOBS: [Job; 3] = [
+const JOBS: [Job; 4] = [
     Job {
         name: "read",
         proved: |log, _| lupinshift::taken(log) as u64,
@@ -48,7 +49,28 @@ const JOBS: [Job; 3] = [
         proved: |log, out| lupinshift::list_into(log, out) as u64,
         second: |log, _| second::list(log).len() as u64,
     },
+    Job {
+        name: "lister",
+        proved: |log, _| listed_by("target/bin/lister", log),
+        second: |log, _| listed_by("second/target/release/lister", log),
+    },
 ];
+
+/// A lister as a program: started, given the log, and waited for; the length of
+/// what it wrote.
+fn listed_by(program: &str, log: &[u8]) -> u64 {
+    let mut lister = Command::new(program)
+        .stdin(Stdio::piped())
+        .stdout(Stdio::piped())
+        .spawn()
+        .expect("bench/run builds the lister");
+    // The lister reads the whole log before it writes.
+    let mut input = lister.stdin.take().expect("a pipe");
+    input.write_all(log).expect("the lister reads");
+    drop(input);
+    let written = lister.wait_with_output().expect("the lister ends");
+    written.stdout.len() as u64
+}
 
 fn main() -> ExitCode {
     let mut words = std::env::args().skip(1);
@@ -111,10 +133,10 @@ fn measure(case: &Case, job: &Job, rounds: usize) {
         let which = (round + round / 2) % 2;
         let work = [job.proved, job.second][which];
         let start = Instant::now();
-        for _ in 0..case.times {
+        for _ in 0..times_of(case, job) {
             black_box(work(black_box(&case.log), &mut out));
         }
-        times[which].push(start.elapsed() / case.times);
+        times[which].push(start.elapsed() / times_of(case, job));
     }
     let [proved, second] = times.map(summary);
     let ratio = |at: usize| proved[at].as_secs_f64() / second[at].as_secs_f64();
@@ -127,6 +149,15 @@ fn measure(case: &Case, job: &Job, rounds: usize) {
         ratio(1),
         ratio(0)
     );
+}
+
+/// How often a job is done in a round: a program that is started, once.
+fn times_of(case: &Case, job: &Job) -> u32 {
+    if job.name == "lister" {
+        1
+    } else {
+        case.times
+    }
 }
 
 /// The fastest round, the median and the upper quartile.

@@ -19,6 +19,10 @@ use mathlib.Core.Path.{_≡_}
 pub record Left (tests : List (Bool × Refusal)) (whole : Verdict) : Type 0 where
   pub says : firstOf tests ≡ whole
 
+-- the first n are behind
+abbrev pub LeftAfter : ℕ → List (Bool × Refusal) → Type 0
+LeftAfter n tests = Left (drop n tests) (firstOf tests)
+
 pub stops : {test : Bool} {why : Refusal} {later : List (Bool × Refusal)} {whole : Verdict} → Left ((test, why) ∷ later) whole → test ≡ true → Refused why ≡ whole
 stops l holds = rw holds at (l .says)
 

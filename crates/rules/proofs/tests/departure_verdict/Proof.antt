@@ -1,18 +1,16 @@
 -- `tests::departure_verdict` meets its contract: the tests are the definition's, from the first to the last, and the first that holds says why.
 -- Assumes nothing.
 use Prim.Native.Nat.{ℕ}
-use Rattle.rules.proofs.Laws.{Left, goes-on, stops}
+use Rattle.rules.proofs.Laws.{LeftAfter, goes-on, stops}
 use Rattle.rules.proofs.tests.departure_verdict.Statement.{statement}
 use Rattle.rules.proofs.tests.departure_verdict.Tie as tie
 use Rattle.working.specs.Reasons.{departTests}
-use Rattle.working.specs.Refusals.{firstOf}
 use borrow.Author.Needs.{needs}
 use borrow.Author.Tests.{le-leb, lt-leb}
-use lib.ListN.{drop}
 use mathlib.Core.Path.{refl}
 
 abbrev From : ℕ → tie.Start → Type 0
-From n c = Left (drop n (departTests (c .args .d) (c .args .time))) (firstOf (departTests (c .args .d) (c .args .time)))
+From n c = LeftAfter n (departTests (c .args .d) (c .args .time))
 
 from-0 : (c : tie.Start) → From 0 c
 from-0 c = record { says = refl }

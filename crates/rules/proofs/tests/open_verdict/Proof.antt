@@ -1,18 +1,16 @@
 -- `tests::open_verdict` meets its contract: the tests are the definition's, from the first to the last, and the first that holds says why.
 -- Assumes nothing.
 use Prim.Native.Nat.{ℕ}
-use Rattle.rules.proofs.Laws.{Left, goes-on, stops}
+use Rattle.rules.proofs.Laws.{LeftAfter, goes-on, stops}
 use Rattle.rules.proofs.tests.open_verdict.Statement.{statement}
 use Rattle.rules.proofs.tests.open_verdict.Tie as tie
 use Rattle.working.specs.Reasons.{openTests}
-use Rattle.working.specs.Refusals.{firstOf}
 use borrow.Author.Needs.{needs}
 use borrow.Author.Tests.{le-ltb, lt-ltb}
-use lib.ListN.{drop}
 use mathlib.Core.Path.{_∙_, refl}
 
 abbrev From : ℕ → tie.Start → Type 0
-From n c = Left (drop n (openTests (c .args .force) (c .args .d) (c .args .time))) (firstOf (openTests (c .args .force) (c .args .d) (c .args .time)))
+From n c = LeftAfter n (openTests (c .args .force) (c .args .d) (c .args .time))
 
 from-0 : (c : tie.Start) → From 0 c
 from-0 c = record { says = refl }

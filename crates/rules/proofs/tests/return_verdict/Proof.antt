@@ -1,18 +1,16 @@
 -- `tests::return_verdict` meets its contract: the tests are the definition's, from the first to the last, and the first that holds says why.
 -- Assumes nothing.
 use Prim.Native.Nat.{ℕ}
-use Rattle.rules.proofs.Laws.{Left, goes-on, stops}
+use Rattle.rules.proofs.Laws.{LeftAfter, goes-on, stops}
 use Rattle.rules.proofs.tests.return_verdict.Statement.{statement}
 use Rattle.rules.proofs.tests.return_verdict.Tie as tie
 use Rattle.working.specs.Reasons.{returnTests}
-use Rattle.working.specs.Refusals.{firstOf}
 use borrow.Author.Needs.{needs}
 use borrow.Author.Tests.{eq-eqb, le-ltb, lt-ltb, ne-eqb}
-use lib.ListN.{drop}
 use mathlib.Core.Path.{_∙_, refl}
 
 abbrev From : ℕ → tie.Start → Type 0
-From n c = Left (drop n (returnTests (c .args .force) (c .args .d) (c .args .time) (c .args .granted))) (firstOf (returnTests (c .args .force) (c .args .d) (c .args .time) (c .args .granted)))
+From n c = LeftAfter n (returnTests (c .args .force) (c .args .d) (c .args .time) (c .args .granted))
 
 from-0 : (c : tie.Start) → From 0 c
 from-0 c = record { says = refl }

@@ -1,17 +1,15 @@
 -- `tests::train_verdict` meets its contract: the tests are the definition's, from the first to the last, and the first that holds says why.
 -- Assumes nothing.
 use Prim.Native.Nat.{ℕ}
-use Rattle.rules.proofs.Laws.{Left, goes-on, stops}
+use Rattle.rules.proofs.Laws.{LeftAfter, goes-on, stops}
 use Rattle.rules.proofs.tests.train_verdict.Statement.{statement}
 use Rattle.rules.proofs.tests.train_verdict.Tie as tie
 use Rattle.working.specs.Reasons.{trainTests}
-use Rattle.working.specs.Refusals.{firstOf}
 use borrow.Author.Needs.{needs}
-use lib.ListN.{drop}
 use mathlib.Core.Path.{_∙_, refl}
 
 abbrev From : ℕ → tie.Start → Type 0
-From n c = Left (drop n (trainTests (c .args .force) (c .args .d) (c .args .time) (c .args .granted))) (firstOf (trainTests (c .args .force) (c .args .d) (c .args .time) (c .args .granted)))
+From n c = LeftAfter n (trainTests (c .args .force) (c .args .d) (c .args .time) (c .args .granted))
 
 from-0 : (c : tie.Start) → From 0 c
 from-0 c = record { says = refl }

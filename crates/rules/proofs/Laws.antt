@@ -1,4 +1,4 @@
--- A departure that is allowed has room: the tests that every departure is put to last have passed.
+-- Two laws of a scan, which stops at a test that holds and goes on past one that does not; and a departure that is allowed has room, since the tests that every departure is put to last have passed.
 -- Assumes nothing.
 use Prim.Native.Nat.{suc, zero, ℕ}
 use Rattle.rules.specs.Rules.{Room}
@@ -7,12 +7,27 @@ use Rattle.working.specs.Reasons.{departTests}
 use Rattle.working.specs.Refusals.{firstOf}
 use Rattle.working.specs.declared.Desk.{Desk}
 use Rattle.working.specs.declared.Refusal.{Refusal}
-use Rattle.working.specs.declared.Verdict.the-variants.{Allowed}
+use Rattle.working.specs.declared.Verdict.the-variants.{Allowed, Refused}
+use Rattle.working.specs.declared.Verdict.{Verdict}
 use borrow.Author.Tests.{leb-false}
 use lib.ListN.{drop}
-use mathlib.Core.Bool.{Bool}
+use mathlib.Core.Bool.{Bool, false, true}
 use mathlib.Core.List.{List, [], _∷_}
 use mathlib.Core.Path.{_≡_}
+
+-- the tests left of a scan say what the whole list says
+pub record Left (tests : List (Bool × Refusal)) (whole : Verdict) : Type 0 where
+  pub says : firstOf tests ≡ whole
+
+-- the first n are behind
+abbrev pub LeftAfter : ℕ → List (Bool × Refusal) → Type 0
+LeftAfter n tests = Left (drop n tests) (firstOf tests)
+
+pub stops : {test : Bool} {why : Refusal} {later : List (Bool × Refusal)} {whole : Verdict} → Left ((test, why) ∷ later) whole → test ≡ true → Refused why ≡ whole
+stops l holds = rw holds at (l .says)
+
+pub goes-on : {test : Bool} {why : Refusal} {later : List (Bool × Refusal)} {whole : Verdict} → Left ((test, why) ∷ later) whole → test ≡ false → Left later whole
+goes-on l fails = record { says = rw fails at (l .says) }
 
 none-later : (n : ℕ) (tests : List (Bool × Refusal)) → NoneHolds tests → NoneHolds (drop n tests)
 none-later zero tests h = h

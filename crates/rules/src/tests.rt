@@ -1,4 +1,4 @@
-// What each kind is refused for. A function scans document 01's list of tests from the last to the first, so the first that holds is given.
+// What each kind is refused for. A function puts document 01's tests in rising order, and the first that holds is given.
 ghost use Rattle.working.specs.Reasons.{departTests, isUnder, mayEnter, openTests, receiveTests, returnTests, trainTests};
 ghost use Rattle.working.specs.Refusals.{firstOf};
 ghost use mathlib.Core.Path.{_≡_};
@@ -27,37 +27,62 @@ fn departure_verdict(d: Desk, time: u16) -> Verdict
     ensures { λ r. ⌜ r ≡ firstOf (departTests d time) ⌝ }
 {
     let interval = d.interval;
-    let v = Verdict::refuse_if(
-        is_under(interval, time),
-        Refusal::IntervalRunning,
-        Verdict::Allowed,
-    );
-    let v = Verdict::refuse_if(Desk::LAST_FORM <= d.last, Refusal::FormsUsed, v);
-    Verdict::refuse_if(Desk::MOST_SENT <= d.sent, Refusal::TwelveSent, v)
+    if Desk::MOST_SENT <= d.sent {
+        return Verdict::Refused(Refusal::TwelveSent);
+    }
+    if Desk::LAST_FORM <= d.last {
+        return Verdict::Refused(Refusal::FormsUsed);
+    }
+    if is_under(interval, time) {
+        return Verdict::Refused(Refusal::IntervalRunning);
+    }
+    Verdict::Allowed
 }
 
 // OPEN and THROUGH.
 pub(crate) fn open_verdict(force: bool, d: Desk, time: u16) -> Verdict
     ensures { λ r. ⌜ r ≡ firstOf (openTests force d time) ⌝ }
 {
-    let v = departure_verdict(d, time);
-    let v = Verdict::refuse_if(0 < d.guest, Refusal::GuestHere, v);
-    let v = Verdict::refuse_if(0 < d.owes, Refusal::OwesLineClear, v);
-    let v = Verdict::refuse_if(0 < d.holds, Refusal::HoldsLineClear, v);
-    let v = Verdict::refuse_if(d.out, Refusal::OpenerAway, v);
-    let v = Verdict::refuse_if(time < d.clock, Refusal::BeforeClock, v);
-    Verdict::refuse_if(!force, Refusal::NotInForce, v)
+    if !force {
+        return Verdict::Refused(Refusal::NotInForce);
+    }
+    if time < d.clock {
+        return Verdict::Refused(Refusal::BeforeClock);
+    }
+    if d.out {
+        return Verdict::Refused(Refusal::OpenerAway);
+    }
+    if 0 < d.holds {
+        return Verdict::Refused(Refusal::HoldsLineClear);
+    }
+    if 0 < d.owes {
+        return Verdict::Refused(Refusal::OwesLineClear);
+    }
+    if 0 < d.guest {
+        return Verdict::Refused(Refusal::GuestHere);
+    }
+    departure_verdict(d, time)
 }
 
 pub(crate) fn return_verdict(force: bool, d: Desk, time: u16, granted: u8) -> Verdict
     ensures { λ r. ⌜ r ≡ firstOf (returnTests force d time granted) ⌝ }
 {
-    let v = departure_verdict(d, time);
-    let v = Verdict::refuse_if(d.asked < granted, Refusal::GrantNotAllowed, v);
-    let v = Verdict::refuse_if(d.guest == 0, Refusal::NoGuest, v);
-    let v = Verdict::refuse_if(0 < d.holds, Refusal::HoldsLineClear, v);
-    let v = Verdict::refuse_if(time < d.clock, Refusal::BeforeClock, v);
-    Verdict::refuse_if(!force, Refusal::NotInForce, v)
+    if !force {
+        return Verdict::Refused(Refusal::NotInForce);
+    }
+    if time < d.clock {
+        return Verdict::Refused(Refusal::BeforeClock);
+    }
+    if 0 < d.holds {
+        return Verdict::Refused(Refusal::HoldsLineClear);
+    }
+    if d.guest == 0 {
+        return Verdict::Refused(Refusal::NoGuest);
+    }
+    if d.asked < granted {
+        return Verdict::Refused(Refusal::GrantNotAllowed);
+    }
+    departure_verdict(d, time)
 }
 
 pub(crate) fn train_verdict(force: bool, d: Desk, time: u16, granted: u8) -> Verdict
@@ -66,11 +91,19 @@ pub(crate) fn train_verdict(force: bool, d: Desk, time: u16, granted: u8) -> Ver
     let early = time < d.clock;
     let uncleared = d.holds == 0;
     let beyond = (d.asked < granted) | ((0 < granted) & (1 < d.holds));
-    let v = departure_verdict(d, time);
-    let v = Verdict::refuse_if(beyond, Refusal::GrantNotAllowed, v);
-    let v = Verdict::refuse_if(uncleared, Refusal::NoLineClear, v);
-    let v = Verdict::refuse_if(early, Refusal::BeforeClock, v);
-    Verdict::refuse_if(!force, Refusal::NotInForce, v)
+    if !force {
+        return Verdict::Refused(Refusal::NotInForce);
+    }
+    if early {
+        return Verdict::Refused(Refusal::BeforeClock);
+    }
+    if uncleared {
+        return Verdict::Refused(Refusal::NoLineClear);
+    }
+    if beyond {
+        return Verdict::Refused(Refusal::GrantNotAllowed);
+    }
+    departure_verdict(d, time)
 }
 
 // A station's own must be OPEN or THROUGH, unmet or heading to it; the other's must head to it.
@@ -98,12 +131,17 @@ pub(crate) fn receive_verdict(
 ) -> Verdict
     ensures { λ r. ⌜ r ≡ firstOf (receiveTests at force d time sender form nearest) ⌝ }
 {
-    let v = Verdict::refuse_if(
-        !may_enter(at, nearest),
-        Refusal::MayNotEnter,
-        Verdict::Allowed,
-    );
-    let v = Verdict::refuse_if(!is_named(sender, form, nearest), Refusal::NotNearest, v);
-    let v = Verdict::refuse_if(time < d.clock, Refusal::BeforeClock, v);
-    Verdict::refuse_if(!force, Refusal::NotInForce, v)
+    if !force {
+        return Verdict::Refused(Refusal::NotInForce);
+    }
+    if time < d.clock {
+        return Verdict::Refused(Refusal::BeforeClock);
+    }
+    if !is_named(sender, form, nearest) {
+        return Verdict::Refused(Refusal::NotNearest);
+    }
+    if !may_enter(at, nearest) {
+        return Verdict::Refused(Refusal::MayNotEnter);
+    }
+    Verdict::Allowed
 }

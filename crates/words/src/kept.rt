@@ -50,7 +50,7 @@ fn vehicles_in(line: &[u64; 24]) -> [Vehicle; 24]
 {
     let _ = &line[..];
     let mut places = [Vehicle::unused(); 24];
-    let mut i: usize = 0;
+    let mut i = 0;
     while i < Section::PLACES {
         places[i] = vehicle_in(line[i]);
         i += 1;

@@ -1,13 +1,12 @@
 -- Sentences of document 01, each as one computed equation.
 -- Assumes nothing.
 use Rattle.working.proofs.Edges.{after, begin, begun, guest, holding, meet, opens, plain, receive, resume, returns, train}
-use Rattle.working.proofs.Session.{answersOf}
 use Rattle.working.specs.Demand3.{vehicleAt}
 use Rattle.working.specs.Entries.{entryIn, judge, lengthOf, mapFits, rangesHold, readAt, writtenAt}
 use Rattle.working.specs.Events.{decode}
-use Rattle.working.specs.Runs.{runFrom, runOf}
 use Rattle.working.specs.Sections.{countRefusal, emptied, fresh, freshDesk, padTo}
 use Rattle.working.specs.Steps.{entered, stepOf}
+use Rattle.working.specs.Turns.{answersIn, turnsFrom, turnsOf}
 use Rattle.working.specs.WellMade.{wellMade}
 use Rattle.working.specs.declared.Answer.the-variants.{Refused}
 use Rattle.working.specs.declared.Entry.{Entry}
@@ -84,13 +83,13 @@ unfolding stepOf wellMade decode readAt judge mapFits rangesHold entryIn lengthO
 both-turn = (refl, refl, refl)
 
 -- "a log of no bytes has no entries"
-no-entries : runOf fresh [] ≡ []
-unfolding runFrom
+no-entries : turnsOf fresh [] ≡ []
+unfolding turnsFrom
 no-entries = refl
 
 -- "after 2, 3 or 4 reading goes on behind the entry"; "1 .. reading stops"
-reading-goes-on : answersOf (runOf fresh (0 ∷ 3 ∷ 1 ∷ 1 ∷ 1 ∷ 1 ∷ 7 ∷ 7 ∷ [])) ≡ Refused UnknownKind ∷ Refused WrongMap ∷ plain ∷ Refused EndsInside ∷ []
-unfolding runFrom stepOf wellMade decode readAt judge mapFits rangesHold entryIn lengthOf entered padTo
+reading-goes-on : answersIn (turnsOf fresh (0 ∷ 3 ∷ 1 ∷ 1 ∷ 1 ∷ 1 ∷ 7 ∷ 7 ∷ [])) ≡ Refused UnknownKind ∷ Refused WrongMap ∷ plain ∷ Refused EndsInside ∷ []
+unfolding turnsFrom stepOf wellMade decode readAt judge mapFits rangesHold entryIn lengthOf entered padTo
 reading-goes-on = refl
 
 -- "A position past the end gives a reader 1 and a writer 23."

@@ -3,24 +3,18 @@
 use Prim.Native.Nat.{ℕ}
 use Rattle.working.specs.Entries.{entryIn, judge, lengthOf, mapFits, rangesHold, readAt}
 use Rattle.working.specs.Events.{decode}
-use Rattle.working.specs.Runs.{endOf, runFrom, runOf}
 use Rattle.working.specs.Sections.{fresh, padTo}
 use Rattle.working.specs.Steps.{entered, stepOf}
+use Rattle.working.specs.Turns.{answersIn, sectionAfter, turnsFrom, turnsOf}
 use Rattle.working.specs.WellMade.{wellMade}
 use Rattle.working.specs.declared.Answer.the-variants.{Accepted, Refused}
-use Rattle.working.specs.declared.Answer.{Answer}
 use Rattle.working.specs.declared.Refusal.the-variants.{IntervalRunning}
 use Rattle.working.specs.declared.Section.{Section}
 use Rattle.working.specs.declared.Speed.the-variants.{Booked, Kmh, NoSpeed}
-use Rattle.working.specs.declared.Stepped.{Stepped}
 use mathlib.Core.List.{List, [], _∷_}
 use mathlib.Core.Path.{_≡_, refl}
 
-abbrev pub answersOf : List Stepped → List Answer
-answersOf [] = []
-answersOf (r ∷ l) = r .answer ∷ answersOf l
-
-abbrev session : List ℕ
+abbrev pub session : List ℕ
 session =
     0x01 ∷ 0x01
     ∷ 0x3F ∷ 0x02 ∷ 0x01 ∷ 0x00 ∷ 0x0A ∷ 0x01 ∷ 0x01 ∷ 0x02
@@ -32,7 +26,7 @@ session =
     ∷ 0x0F ∷ 0x05 ∷ 0x01 ∷ 0x00 ∷ 0x7E ∷ 0x01
     ∷ []
 
-the-session : answersOf (runOf fresh session) ≡
+the-session : answersIn (turnsOf fresh session) ≡
     Accepted 0 0 NoSpeed
     ∷ Accepted 1 7 (Kmh 15)
     ∷ Accepted 0 0 NoSpeed
@@ -42,12 +36,12 @@ the-session : answersOf (runOf fresh session) ≡
     ∷ Refused IntervalRunning
     ∷ Accepted 3 104 (Kmh 25)
     ∷ []
-unfolding runFrom stepOf wellMade decode readAt judge mapFits rangesHold entryIn lengthOf entered padTo
+unfolding turnsFrom stepOf wellMade decode readAt judge mapFits rangesHold entryIn lengthOf entered padTo
 the-session = refl
 
 last : Section
-last = endOf fresh (runOf fresh session)
+last = sectionAfter fresh (turnsOf fresh session)
 
 the-end : (last .len ≡ 2) × (last .a .holds ≡ 0) × (last .a .owes ≡ 0) × (last .b .holds ≡ 0) × (last .b .owes ≡ 2)
-unfolding last runFrom stepOf wellMade decode readAt judge mapFits rangesHold entryIn lengthOf entered padTo
+unfolding last turnsFrom stepOf wellMade decode readAt judge mapFits rangesHold entryIn lengthOf entered padTo
 the-end = (refl, refl, refl, refl, refl)

@@ -1,12 +1,11 @@
 -- Short logs of the second program's generator, and the answers that its lister gave, by computation on the definitions.
 -- Written by scripts/stored-logs; never by hand. Assumes nothing.
 use Prim.Native.Nat.{ℕ}
-use Rattle.working.proofs.Session.{answersOf}
 use Rattle.working.specs.Entries.{entryIn, judge, lengthOf, mapFits, rangesHold, readAt}
 use Rattle.working.specs.Events.{decode}
-use Rattle.working.specs.Runs.{runFrom, runOf}
 use Rattle.working.specs.Sections.{fresh, padTo}
 use Rattle.working.specs.Steps.{entered, stepOf}
+use Rattle.working.specs.Turns.{answersIn, turnsFrom, turnsOf}
 use Rattle.working.specs.WellMade.{wellMade}
 use Rattle.working.specs.declared.Answer.the-variants.{Accepted, Refused}
 use Rattle.working.specs.declared.Refusal.the-variants.{AlreadyInForce, BeforeClock, EndsInside, MayNotEnter, NoLineClear, NotInForce, NotNearest, OutOfRange, UnknownKind, VehiclePresent, WrongMap}
@@ -26,7 +25,7 @@ log-3 =
     ∷ 0 ∷ 157 ∷ 3 ∷ 8 ∷ 135 ∷ 6 ∷ 2 ∷ 0 ∷ 15 ∷ 1 ∷ 0 ∷ 7
     ∷ []
 
-answers-3 : answersOf (runOf fresh log-3) ≡
+answers-3 : answersIn (turnsOf fresh log-3) ≡
     Refused NotInForce
     ∷ Accepted 0 0 NoSpeed
     ∷ Accepted 1 7 (Kmh 15)
@@ -54,7 +53,7 @@ answers-3 : answersOf (runOf fresh log-3) ≡
     ∷ Accepted 7 106 (Kmh 10)
     ∷ Accepted 0 0 NoSpeed
     ∷ []
-unfolding runFrom stepOf wellMade decode readAt judge mapFits rangesHold entryIn lengthOf entered padTo
+unfolding turnsFrom stepOf wellMade decode readAt judge mapFits rangesHold entryIn lengthOf entered padTo
 answers-3 = refl
 
 abbrev log-8 : List ℕ
@@ -69,7 +68,7 @@ log-8 =
     ∷ 4 ∷ 2
     ∷ []
 
-answers-8 : answersOf (runOf fresh log-8) ≡
+answers-8 : answersIn (turnsOf fresh log-8) ≡
     Accepted 0 0 NoSpeed
     ∷ Refused UnknownKind
     ∷ Accepted 1 1 Walking
@@ -97,7 +96,7 @@ answers-8 : answersOf (runOf fresh log-8) ≡
     ∷ Accepted 9 1 Walking
     ∷ Refused EndsInside
     ∷ []
-unfolding runFrom stepOf wellMade decode readAt judge mapFits rangesHold entryIn lengthOf entered padTo
+unfolding turnsFrom stepOf wellMade decode readAt judge mapFits rangesHold entryIn lengthOf entered padTo
 answers-8 = refl
 
 abbrev log-21 : List ℕ
@@ -112,7 +111,7 @@ log-21 =
     ∷ 135 ∷ 6 ∷ 2 ∷ 0 ∷ 60 ∷ 2 ∷ 0 ∷ 7 ∷ 0 ∷ 31 ∷ 3 ∷ 2 ∷ 0 ∷ 60 ∷ 1
     ∷ []
 
-answers-21 : answersOf (runOf fresh log-21) ≡
+answers-21 : answersIn (turnsOf fresh log-21) ≡
     Refused OutOfRange
     ∷ Accepted 0 0 NoSpeed
     ∷ Accepted 1 7 (Kmh 10)
@@ -140,7 +139,7 @@ answers-21 : answersOf (runOf fresh log-21) ≡
     ∷ Refused UnknownKind
     ∷ Refused EndsInside
     ∷ []
-unfolding runFrom stepOf wellMade decode readAt judge mapFits rangesHold entryIn lengthOf entered padTo
+unfolding turnsFrom stepOf wellMade decode readAt judge mapFits rangesHold entryIn lengthOf entered padTo
 answers-21 = refl
 
 abbrev log-34 : List ℕ
@@ -155,7 +154,7 @@ log-34 =
     ∷ 2 ∷ 1 ∷ 1
     ∷ []
 
-answers-34 : answersOf (runOf fresh log-34) ≡
+answers-34 : answersIn (turnsOf fresh log-34) ≡
     Accepted 0 0 NoSpeed
     ∷ Accepted 1 7 (Kmh 10)
     ∷ Accepted 1 7 Walking
@@ -183,5 +182,5 @@ answers-34 : answersOf (runOf fresh log-34) ≡
     ∷ Accepted 8 7 (Kmh 10)
     ∷ Refused AlreadyInForce
     ∷ []
-unfolding runFrom stepOf wellMade decode readAt judge mapFits rangesHold entryIn lengthOf entered padTo
+unfolding turnsFrom stepOf wellMade decode readAt judge mapFits rangesHold entryIn lengthOf entered padTo
 answers-34 = refl

@@ -9,13 +9,14 @@ use Rattle.working.proofs.Made.{line-after, room-of}
 use Rattle.working.proofs.Plans.{Fate, arrives, departs, fate, refuses}
 use Rattle.working.proofs.Ranges.{actTests, ranged-of}
 use Rattle.working.proofs.Tests.{Each, both, false-true, none-holds}
-use Rattle.working.specs.Demand3.{ReceivesIt, formIn, isAccepted, isDeparture}
+use Rattle.working.specs.Demand3.{ReceivesIt, formIn, isDeparture}
 use Rattle.working.specs.Effects.{arriveDesk, vehicleFor}
 use Rattle.working.specs.Events.{Says, decode}
 use Rattle.working.specs.Reasons.{isNamed, openTests, receiveTests, returnTests, trainTests}
 use Rattle.working.specs.Refusals.{firstOf}
 use Rattle.working.specs.Sections.{deskOf, insertAt, lineOf, nearestAt, numberAt, removeAt, withDesk, withLine}
 use Rattle.working.specs.Steps.{doneBy, entered, onDecoded, planOf, stepOf, unlessRefused}
+use Rattle.working.specs.Turns.{isAccepted}
 use Rattle.working.specs.WellMade.{oneIf}
 use Rattle.working.specs.declared.Act.the-variants.{Opens, Passes, Receives, Returns, Runs}
 use Rattle.working.specs.declared.Act.{Act}

@@ -4,6 +4,7 @@ use Rattle.working.specs.Departures.{Departure, Kind, departureOf, kindI
 use Rattle.working.specs.Events.{Says, decode}
 use Rattle.working.specs.Runs.{Done, Run, results, resultsOf}
 use Rattle.working.specs.Sections.{deskOf, fresh, lineOf, numberAt, otherAt, unused}
+use Rattle.working.specs.Turns.{isAccepted}
 use Rattle.working.specs.WellMade.{isFrom, oneIf, sumOver}
 use Rattle.working.specs.declared.Act.the-variants.{Receives}
 use Rattle.working.specs.declared.Act.{Act}
@@ -47,10 +48,6 @@ abbrev pub onTheWayTo : Section → Station → ℕ
 onTheWayTo s x = sumOver (ofStation (otherAt x) (λ v. grantedIn (v .movement))) (lineOf s)
 
 -- ---- neighbours
-
-abbrev pub isAccepted : Answer → Bool
-isAccepted (Refused why) = false
-isAccepted (Accepted number forms speed) = true
 
 abbrev pub formIn : Answer → ℕ
 formIn (Refused why) = 0

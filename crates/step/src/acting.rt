@@ -161,7 +161,7 @@ fn act_at(line: &mut [u64; 24], figures: &mut [u64; 21], at: Station, time: u16,
 }
 
 // The answer to an entry that is taken; the section after it is left in the words. Whether the section is well made is not looked at here.
-pub fn enter_in(line: &mut [u64; 24], figures: &mut [u64; 21], e: Entry) -> Answer
+fn enter_in(line: &mut [u64; 24], figures: &mut [u64; 21], e: Entry) -> Answer
     ensures { λ r. ⌜ LeavesIn (now (line .entry)) (now (figures .entry)) (λ s. entered s (eventOf e)) r (now (line .exit)) (now (figures .exit)) ⌝ }
 {
     let kind = e.kind;
@@ -180,7 +180,7 @@ pub fn enter_in(line: &mut [u64; 24], figures: &mut [u64; 21], e: Entry) -> Answ
 
 // The answer to what was read at some place; the section after it is left in the words: for those who read a log themselves and print or count as they go, from a
 // well-made section. No bytes give 1. The section is not tested here; a step keeps a well-made section well made.
-pub fn answer_in(line: &mut [u64; 24], figures: &mut [u64; 21], read: Read) -> Answer
+pub(crate) fn answer_in(line: &mut [u64; 24], figures: &mut [u64; 21], read: Read) -> Answer
     ensures { λ r. ⌜ LeavesIn (now (line .entry)) (now (figures .entry)) (λ s. onDecoded s (decodedAs read)) r (now (line .exit)) (now (figures .exit)) ⌝ }
 {
     match read {

@@ -5,15 +5,10 @@ mod memory;
 mod running;
 mod stepping;
 
-pub use acting::answer_in;
-pub use acting::enter_in;
 pub use memory::step_in;
 pub use memory::step_via;
 pub use running::Last;
-pub use running::Progress;
 pub use running::Ran;
-pub use running::advance;
 pub use running::run;
 pub use running::taken;
-pub use stepping::answered;
 pub use stepping::step;

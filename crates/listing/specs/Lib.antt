@@ -1,5 +1,2 @@
-pub mod Blocks
 pub mod Lines
-pub mod Listings
 pub mod Text
-pub mod Turns

@@ -1,11 +1,8 @@
-// The text of a listing: a line for each entry of a log, and a last line with the figures, put into lent blocks of any size.
-// specs/Listings.antt says what the listing of a log is, and specs/Blocks.antt that the blocks one after another are that listing (proofs/Whole.antt).
-mod blocks;
+// The lines of a listing as text, put into a lent block: an entry's line, and the last line. specs/Lines.antt says what each line is.
 mod lines;
 mod text;
-mod turns;
 
-pub use blocks::Filled;
-pub use blocks::fill;
-pub use turns::Listing;
-pub use turns::begin;
+pub use lines::LONGEST_LINE;
+pub use lines::LONGEST_LOG;
+pub use lines::put_last;
+pub use lines::put_line;

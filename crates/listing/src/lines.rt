@@ -1,6 +1,6 @@
 // The lines of a listing.
 ghost use Prim.Native.Nat.{_+_, _≤_};
-ghost use Rattle.listing.specs.Lines.{answerText, deskText, endLine, letterAt, lineWith, longLine, longestLine, speedText};
+ghost use Rattle.listing.specs.Lines.{PutsLine, answerText, endFigures, endLine, hasRoom, lastLine, letterAt, lineWith, longLine, longestLine, speedText};
 ghost use Rattle.listing.specs.Text.{Puts};
 ghost use lib.ListN.{length};
 ghost use mathlib.Core.Path.{_≡_};
@@ -10,9 +10,14 @@ use crate::text::put_number;
 use crate::text::put_three;
 use crate::text::put_two;
 use working::Answer;
-use working::Desk;
 use working::Section;
 use working::Speed;
+
+// The longest log that is listed, in bytes.
+pub const LONGEST_LOG: usize = 65536;
+
+// No line is longer: `end`, eight numbers of at most 20 digits with a blank before each, and a line feed.
+pub const LONGEST_LINE: usize = 172;
 
 // A station's letter, and - where there is none.
 pub(crate) fn letter_at(station: u8) -> u8
@@ -59,8 +64,8 @@ pub(crate) fn put_answer(block: &mut [u8], at: usize, answer: Answer) -> usize
     }
 }
 
-// An entry's line: its number in the log, kind, station and answer.
-pub(crate) fn put_line(
+// An entry's line where there is room for the longest: its number in the log, kind, station and answer.
+pub(crate) fn put_entry(
     block: &mut [u8],
     at: usize,
     number: usize,
@@ -78,15 +83,6 @@ pub(crate) fn put_line(
     put(block, at, b'\n')
 }
 
-// A station's line clears, held and owed.
-pub(crate) fn put_desk(block: &mut [u8], at: usize, desk: Desk) -> usize
-    requires { ⌜ at + 42 ≤ length (now block) ⌝ }
-    ensures { λ r. ⌜ Puts (now (block .entry)) at (deskText desk) r (now (block .exit)) × (r ≤ at + 42) ⌝ }
-{
-    let at = put_field(block, at, desk.holds as usize);
-    put_field(block, at, desk.owes as usize)
-}
-
 // The last line: `end`, entries, accepted, refused, vehicles present, A holds, A owes, B holds, B owes.
 pub(crate) fn put_end(
     block: &mut [u8],
@@ -96,7 +92,7 @@ pub(crate) fn put_end(
     s: Section,
 ) -> usize
     requires { ⌜ at + longestLine ≤ length (now block) ⌝ }
-    ensures { λ r. ⌜ Puts (now (block .entry)) at (endLine entries accepted s) r (now (block .exit)) ⌝ }
+    ensures { λ r. ⌜ Puts (now (block .entry)) at (endLine (endFigures entries accepted s)) r (now (block .exit)) ⌝ }
 {
     let a = s.a;
     let b = s.b;
@@ -105,8 +101,10 @@ pub(crate) fn put_end(
     let at = put_field(block, at, accepted);
     let at = put_field(block, at, s.refused as usize);
     let at = put_field(block, at, s.len);
-    let at = put_desk(block, at, a);
-    let at = put_desk(block, at, b);
+    let at = put_field(block, at, a.holds as usize);
+    let at = put_field(block, at, a.owes as usize);
+    let at = put_field(block, at, b.holds as usize);
+    let at = put_field(block, at, b.owes as usize);
     put(block, at, b'\n')
 }
 
@@ -117,4 +115,52 @@ pub(crate) fn put_long(block: &mut [u8], at: usize) -> usize
 {
     let at = put_three(block, at, b'l', b'o', b'n');
     put_two(block, at, b'g', b'\n')
+}
+
+// Whether a block of so many bytes has room for the longest line at a place.
+pub(crate) fn has_room(len: usize, at: usize) -> bool
+    ensures { λ r. ⌜ r ≡ hasRoom len at ⌝ }
+{
+    if len < at {
+        return false;
+    }
+    LONGEST_LINE <= len - at
+}
+
+// An entry's line: its number in the log, kind, station and answer. It is put where the block has room for the longest line, and the place behind it is given; elsewhere
+// nothing is altered, and the place is the same.
+pub fn put_line(
+    block: &mut [u8],
+    at: usize,
+    number: usize,
+    kind: u8,
+    station: u8,
+    answer: Answer,
+) -> usize
+    ensures { λ r. ⌜ PutsLine (now (block .entry)) at (lineWith number kind station answer) r (now (block .exit)) ⌝ }
+{
+    if has_room(block.len(), at) {
+        return put_entry(block, at, number, kind, station, answer);
+    }
+    at
+}
+
+// The last line of a log of `len` bytes: the figures, or that the log is too long. It is put where the block has room for the longest line, as an entry's line is.
+pub fn put_last(
+    block: &mut [u8],
+    at: usize,
+    len: usize,
+    entries: usize,
+    accepted: usize,
+    s: Section,
+) -> usize
+    ensures { λ r. ⌜ PutsLine (now (block .entry)) at (lastLine len (endFigures entries accepted s)) r (now (block .exit)) ⌝ }
+{
+    if !has_room(block.len(), at) {
+        return at;
+    }
+    if LONGEST_LOG < len {
+        return put_long(block, at);
+    }
+    put_end(block, at, entries, accepted, s)
 }

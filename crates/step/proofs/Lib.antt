@@ -1,3 +1,5 @@
+pub mod Advancing
+pub mod Filling
+pub mod Next
 pub mod Said
 pub mod Scans
-pub mod Turns

@@ -1,3 +1,6 @@
 pub mod Acts
+pub mod Blocks
+pub mod Lines
+pub mod Listings
 pub mod Running
 pub mod Words

@@ -1,10 +1,17 @@
-// The step on a section and lent bytes, in both forms, and the running of a log.
+// The step on a section and lent bytes, in both forms; the running of a log, and its listing in blocks.
+// specs/Listings.antt says what the listing of a log is, and specs/Blocks.antt that the blocks one after another are that listing (proofs/Whole.antt).
 mod acting;
+mod blocks;
 mod events;
+mod lines;
 mod memory;
 mod running;
 mod stepping;
 
+pub use blocks::Filled;
+pub use blocks::fill;
+pub use lines::Listing;
+pub use lines::begin;
 pub use memory::step_in;
 pub use memory::step_via;
 pub use running::Last;

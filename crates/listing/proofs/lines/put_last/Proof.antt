@@ -1,0 +1,63 @@
+-- `lines::put_last` meets its contract: the line is put where there is room for the longest, and the test of the log's length is the definition's.
+-- Assumes nothing.
+use Prim.Native.Nat.{_+_, _≤_}
+use Rattle.listing.proofs.Putting.{line-not-put, line-put}
+use Rattle.listing.proofs.lines.put_last.Statement.{statement}
+use Rattle.listing.proofs.lines.put_last.Tie as tie
+use Rattle.listing.specs.Lines.{hasRoom, longestLine}
+use borrow.Author.Needs.{needs}
+use borrow.Author.Tests.{le-ltb, leb-true, lt-ltb, not-false, not-true}
+use lib.ListN.{length}
+use mathlib.Core.Bool.{true}
+use mathlib.Core.Path.{_∙_, _≡_, sym}
+use native.Mathlib.Omega.{arith}
+
+has-room-requires : tie.Need-has-room-requires
+has-room-requires c κs = search needs
+
+returns : tie.Need-returns
+returns c = line-not-put (sym (c .before .has-room .ensures) ∙ not-true (c .before .has-room .result) (c .if1 .taken))
+
+-- behind the first test there is room
+there : (c : tie.Else1) → let a = c .before .before .before .args in hasRoom (length (a .block .now)) (a .at) ≡ true
+there c = sym (c .before .has-room .ensures) ∙ not-false (c .before .has-room .result) (c .if1 .left)
+
+room : (c : tie.Else1) → let a = c .before .before .before .args in a .at + longestLine ≤ length (a .block .now)
+room c = leb-true _ _ (there c)
+
+put-long-requires : tie.Need-put-long-requires
+put-long-requires c κs = omega (arith, room (c .before .before))
+
+same-length : tie.Need-same-length
+same-length c = search needs
+
+returns-2 : tie.Need-returns-2
+returns-2 c =
+    let put = c .before .before in
+    let test = put .before .before in
+    line-put (there (test .before)) (rw (lt-ltb _ _ (test .if2 .taken)) (put .put-long .ensures))
+
+put-end-requires : tie.Need-put-end-requires
+put-end-requires c κs = room (c .before .before)
+
+same-length-2 : tie.Need-same-length-2
+same-length-2 c = search needs
+
+returns-3 : tie.Need-returns-3
+returns-3 c =
+    let put = c .before .before in
+    let test = put .before .before in
+    line-put (there (test .before)) (rw (le-ltb _ _ (test .if2 .left)) (put .put-end .ensures))
+
+pub put-last-spec : {M : Type 1} → statement M
+put-last-spec =
+    tie.close
+    (tie.spec
+    has-room-requires
+    returns
+    put-long-requires
+    same-length
+    returns-2
+    put-end-requires
+    same-length-2
+    returns-3)

@@ -251,22 +251,23 @@ impl Generator {
     /// The receipt of the vehicle nearest this station.
     fn receipt(&mut self, station: Station) -> Option<Entry> {
         let nearest = *self.section.nearest(station)?;
+        let sender = Station::from_number(nearest.sender)?;
         let time = self.later_than(self.desk(station).clock);
-        Some(Entry::receive(station, time, nearest.sender?, nearest.form))
+        Some(Entry::receive(station, time, sender, nearest.form))
     }
 
     /// A meeting of two neighbours that head towards one another.
     fn meeting(&mut self, station: Station) -> Option<Entry> {
         let pairs = self.section.vehicles().windows(2);
-        let opposed = |pair: &&[Vehicle]| {
-            pair[0].heading == Some(Station::B) && pair[1].heading == Some(Station::A)
-        };
+        let opposed =
+            |pair: &&[Vehicle]| pair[0].heads_to(Station::B) && pair[1].heads_to(Station::A);
         let nearer_a: Vec<Vehicle> = pairs.filter(opposed).map(|pair| pair[0]).collect();
         if nearer_a.is_empty() {
             return None;
         }
         let named = self.random.pick(&nearer_a);
-        Some(Entry::meet(station, named.sender?, named.form))
+        let sender = Station::from_number(named.sender)?;
+        Some(Entry::meet(station, sender, named.form))
     }
 
     fn departure(&mut self, kind: Kind, station: Station) -> Entry {
@@ -447,7 +448,7 @@ impl Generator {
         let vehicles = self.section.vehicles();
         if !vehicles.is_empty() && self.random.chance(80) {
             let named = self.random.pick(vehicles);
-            if let Some(sender) = named.sender {
+            if let Some(sender) = Station::from_number(named.sender) {
                 return (sender, named.form);
             }
         }
@@ -556,7 +557,7 @@ fn just_before_interval_ends(desk: &Desk) -> u16 {
 }
 
 /// The bytes of an entry; of one that may not be written, none.
-fn bytes_of(entry: &Entry) -> Vec<u8> {
+pub(crate) fn bytes_of(entry: &Entry) -> Vec<u8> {
     let mut buffer = [0; LONGEST_ENTRY];
     let length = encode(entry, &mut buffer).unwrap_or(0);
     debug_assert!(length > 0, "{entry:?}");
@@ -662,13 +663,13 @@ fn any_vehicle(random: &mut Random, sender: Station, form: u16) -> Vehicle {
     };
     Vehicle {
         left_on: Some(kind),
-        sender: Some(sender),
+        sender: sender.number(),
         form,
-        heading: Some(if met {
-            random.pick(&Station::BOTH)
+        heading: if met {
+            random.pick(&Station::BOTH).number()
         } else {
-            sender.other()
-        }),
+            sender.other().number()
+        },
         met,
         class: match kind {
             Kind::Open | Kind::Return => random.small(1, Section::MOST_CLASSES),

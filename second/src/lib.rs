@@ -7,9 +7,12 @@
 //! * [`step()`] and [`step_in_place`] answer one entry,
 //! * [`Run`] runs a whole log, and [`list`] prints it,
 //! * [`generator`] makes logs, and [`walk`] holds the claims about lists of
-//!   steps against them.
+//!   steps against them,
+//! * [`cases`] are stored for another program, with what must come of each.
 
+pub mod cases;
 pub mod entry;
+pub mod figures;
 pub mod generator;
 pub mod lister;
 pub mod log;

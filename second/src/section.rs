@@ -101,12 +101,12 @@ impl Desk {
 pub struct Vehicle {
     /// OPEN, THROUGH, RETURN or TRAIN.
     pub left_on: Option<Kind>,
-    /// The station that sent it.
-    pub sender: Option<Station>,
+    /// The station that sent it, 1 or 2.
+    pub sender: u8,
     /// The number of its form, counted by its sender.
     pub form: u16,
-    /// The station it goes to.
-    pub heading: Option<Station>,
+    /// The station it goes to, 1 or 2.
+    pub heading: u8,
     /// Whether it has met another in the section.
     pub met: bool,
     /// Its class, 0 for a train.
@@ -121,7 +121,19 @@ impl Vehicle {
     /// Whether this is the vehicle that `sender` sent on this form.
     #[must_use]
     pub fn is_named(&self, sender: Station, form: u16) -> bool {
-        self.sender == Some(sender) && self.form == form
+        self.is_from(sender) && self.form == form
+    }
+
+    /// Whether this station sent it.
+    #[must_use]
+    pub fn is_from(&self, station: Station) -> bool {
+        self.sender == station.number()
+    }
+
+    /// Whether it goes to this station.
+    #[must_use]
+    pub fn heads_to(&self, station: Station) -> bool {
+        self.heading == station.number()
     }
 
     /// Whether it left without a line clear, as an opener or through engine.
@@ -131,8 +143,11 @@ impl Vehicle {
     }
 
     fn is_well_made(&self) -> bool {
-        let (Some(kind), Some(sender), Some(heading)) = (self.left_on, self.sender, self.heading)
-        else {
+        let (Some(kind), Some(sender), Some(heading)) = (
+            self.left_on,
+            Station::from_number(self.sender),
+            Station::from_number(self.heading),
+        ) else {
             return false;
         };
         let may_have_met = self.left_without_line_clear();
@@ -241,7 +256,7 @@ impl Section {
     pub fn sent_by(&self, sender: Station) -> impl Iterator<Item = &Vehicle> {
         self.vehicles()
             .iter()
-            .filter(move |vehicle| vehicle.sender == Some(sender))
+            .filter(move |vehicle| vehicle.is_from(sender))
     }
 
     /// Whether the section is one that a step accepts.
@@ -278,7 +293,7 @@ impl Section {
     fn senders_stand_in_order(&self) -> bool {
         self.vehicles()
             .windows(2)
-            .all(|pair| pair[0].sender == Some(Station::A) || pair[1].sender == Some(Station::B))
+            .all(|pair| pair[0].is_from(Station::A) || pair[1].is_from(Station::B))
     }
 
     fn departures_are_counted(&self, sender: Station) -> bool {
@@ -329,9 +344,9 @@ mod tests {
     fn through(sender: Station, form: u16) -> Vehicle {
         Vehicle {
             left_on: Some(Kind::Through),
-            sender: Some(sender),
+            sender: sender.number(),
             form,
-            heading: Some(sender.other()),
+            heading: sender.other().number(),
             class: 1,
             ..Vehicle::default()
         }
@@ -352,8 +367,8 @@ mod tests {
         section
     }
 
-    fn names(section: &Section) -> Vec<(char, u16)> {
-        let name = |vehicle: &Vehicle| (vehicle.sender.unwrap().letter(), vehicle.form);
+    fn names(section: &Section) -> Vec<(u8, u16)> {
+        let name = |vehicle: &Vehicle| (vehicle.sender, vehicle.form);
         section.vehicles().iter().map(name).collect()
     }
 
@@ -361,12 +376,12 @@ mod tests {
     fn vehicles_stand_in_order_from_a_to_b() {
         let mut section = two_each();
         assert!(section.is_well_made());
-        assert_eq!(names(&section), [('A', 2), ('A', 1), ('B', 1), ('B', 2)]);
+        assert_eq!(names(&section), [(1, 2), (1, 1), (2, 1), (2, 2)]);
         assert_eq!(section.nearest(Station::A), Some(&through(Station::A, 2)));
         assert_eq!(section.nearest(Station::B), Some(&through(Station::B, 2)));
         section.take_out(Station::A);
         section.take_out(Station::B);
-        assert_eq!(names(&section), [('A', 1), ('B', 1)]);
+        assert_eq!(names(&section), [(1, 1), (2, 1)]);
         section.take_out(Station::A);
         section.take_out(Station::A);
         assert_eq!(section.places, Section::fresh().places);

@@ -207,12 +207,11 @@ fn departure_of<'a>(
     list: &'a [Step],
     vehicle: &Vehicle,
 ) -> Option<(Kind, &'a Entry, &'a Accepted)> {
-    let sender = vehicle.sender?.number();
     list.iter()
         .rev()
         .filter_map(Step::accepted)
         .find(|(kind, entry, accepted)| {
-            kind.is_departure() && entry.station == sender && accepted.form == vehicle.form
+            kind.is_departure() && entry.station == vehicle.sender && accepted.form == vehicle.form
         })
 }
 
@@ -225,11 +224,11 @@ pub fn check_opposed(list: &[Step], section: &Section) -> Result<u64, Failure> {
     let vehicles = section.vehicles();
     let mut pairs = 0;
     for (place, nearer_a) in vehicles.iter().enumerate() {
-        if nearer_a.heading != Some(Station::B) {
+        if !nearer_a.heads_to(Station::B) {
             continue;
         }
         for nearer_b in &vehicles[place + 1..] {
-            if nearer_b.heading != Some(Station::A) {
+            if !nearer_b.heads_to(Station::A) {
                 continue;
             }
             pairs += 1;

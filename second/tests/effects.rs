@@ -45,9 +45,9 @@ fn an_opener_leaves() {
     assert_eq!(register.section.desk(A), &Desk::default());
     let vehicle = Vehicle {
         left_on: Some(Kind::Open),
-        sender: Some(B),
+        sender: 2,
         form: 1,
-        heading: Some(A),
+        heading: 1,
         met: false,
         class: 3,
         asked: 6,
@@ -225,7 +225,7 @@ fn a_meeting_turns_both_and_alters_no_desk() {
     register.accept(Entry::meet(A, A, 1));
     assert_eq!(register.section.desks, desks);
     for vehicle in register.section.vehicles() {
-        assert_eq!((vehicle.heading, vehicle.met), (Some(A), true));
+        assert_eq!((vehicle.heading, vehicle.met), (1, true));
     }
     // They no longer head towards one another.
     register.refuse(22, Entry::meet(B, A, 1));
@@ -251,7 +251,7 @@ fn those_turned_back_may_meet_a_follower_of_their_own_station() {
         .iter()
         .map(|vehicle| (vehicle.form, vehicle.heading, vehicle.met))
         .collect();
-    let expected = [(2, Some(B), true), (1, Some(B), true), (1, Some(A), true)];
+    let expected = [(2, 2, true), (1, 2, true), (1, 1, true)];
     assert_eq!(headings, expected);
     // The two in the middle are opposed again and may meet again.
     register.accept(Entry::meet(B, A, 1));

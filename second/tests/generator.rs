@@ -152,10 +152,10 @@ fn name_entry(
             );
         }
         Kind::Meet => {
-            let named = before.vehicles().iter().position(|vehicle| {
-                vehicle.sender.map(Station::number) == Some(entry.sender)
-                    && vehicle.form == entry.form
-            });
+            let named = before
+                .vehicles()
+                .iter()
+                .position(|vehicle| vehicle.sender == entry.sender && vehicle.form == entry.form);
             let place = named.unwrap();
             let (nearer_a, nearer_b) = (before.vehicles()[place], before.vehicles()[place + 1]);
             name(nearer_a.sender == nearer_b.sender, "meeting of one sender");

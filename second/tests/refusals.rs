@@ -220,7 +220,7 @@ fn refusal_21_of_the_others_vehicle_on_its_way_home() {
     let mut register = Register::begun();
     register.accept(Entry::through(B, 0, 1));
     let vehicle = &mut register.section.places[0];
-    (vehicle.met, vehicle.heading) = (true, Some(B));
+    (vehicle.met, vehicle.heading) = (true, 2);
     assert!(register.section.is_well_made());
     register.refuse(21, Entry::receive(A, 0, B, 1));
     register.accept(Entry::receive(B, 0, B, 1));

@@ -8,9 +8,9 @@ const BEGIN: [u8; 2] = [1, 1];
 fn vehicle(kind: Kind, sender: Station, form: u16) -> Vehicle {
     Vehicle {
         left_on: Some(kind),
-        sender: Some(sender),
+        sender: sender.number(),
         form,
-        heading: Some(sender.other()),
+        heading: sender.other().number(),
         met: false,
         class: match kind {
             Kind::Train => 0,
@@ -151,16 +151,22 @@ fn form_numbers_are_given_out_and_differ() {
 fn unmet_vehicles_head_away_from_their_sender() {
     for place in 0..8 {
         let without_line_clear = place % 4 < 2;
-        let own = if place < 4 { A } else { B };
-        alter(false, |section| section.places[place].heading = Some(own));
-        alter(false, |section| section.places[place].heading = None);
+        let own = if place < 4 { 1 } else { 2 };
+        alter(false, |section| section.places[place].heading = own);
+        for wrong in [0, 3, u8::MAX] {
+            alter(false, |section| section.places[place].heading = wrong);
+            alter(false, |section| {
+                section.places[place].met = true;
+                section.places[place].heading = wrong;
+            });
+        }
         // Only an opener or a through engine meets another.
         alter(without_line_clear, |section| {
             section.places[place].met = true;
         });
         alter(without_line_clear, |section| {
             section.places[place].met = true;
-            section.places[place].heading = Some(own);
+            section.places[place].heading = own;
         });
     }
 }
@@ -194,7 +200,11 @@ fn messages_fit_what_a_vehicle_left_on() {
 
 #[test]
 fn a_vehicle_has_a_sender_and_left_on_a_departure() {
-    alter(false, |section| section.places[7].sender = None);
+    for place in [0, 7] {
+        for wrong in [0, 3, u8::MAX] {
+            alter(false, |section| section.places[place].sender = wrong);
+        }
+    }
     alter(false, |section| section.places[7].left_on = None);
     for kind in [Kind::Begin, Kind::Receive, Kind::Meet, Kind::Resume] {
         alter(false, |section| section.places[7].left_on = Some(kind));

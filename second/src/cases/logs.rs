@@ -1,0 +1,506 @@
+//! Logs read and stepped from the fresh section.
+
+use super::{Case, NO_ENTRIES, SESSION};
+use crate::entry::{Entry, Kind};
+use crate::generator::{self, bytes_of, Options};
+use crate::section::Station::{A, B};
+use crate::section::{Section, Station};
+
+/// Entries of a log of the generator.
+const ENTRIES: usize = 60;
+
+/// Seeds of logs with refusals among their entries.
+const SEEDS: [u64; 8] = [1, 2, 3, 5, 8, 13, 21, 34];
+
+/// Seeds of logs that are accepted throughout.
+const ACCEPTED_SEEDS: [u64; 4] = [1, 2, 3, 4];
+
+pub(super) fn cases() -> Vec<Case> {
+    let mut logs = vec![SESSION.concat(), Vec::new()];
+    logs.extend(accepted().iter().map(|entries| written(entries)));
+    logs.extend(refused().iter().map(|entries| written(entries)));
+    logs.push(edges());
+    logs.extend(bytes_refused());
+    logs.extend(cut());
+    logs.extend(generated());
+    logs.into_iter().map(|log| Case::Log { log }).collect()
+}
+
+fn written(entries: &[Entry]) -> Vec<u8> {
+    entries.iter().flat_map(bytes_of).collect()
+}
+
+/// The same entries with the stations changed for one another. MEET names the
+/// vehicle nearer A, so a list with one has no such mirror.
+fn mirrored(entries: &[Entry]) -> Vec<Entry> {
+    let other =
+        |number: u8| Station::from_number(number).map_or(0, |station| station.other().number());
+    let mirror = |entry: &Entry| {
+        debug_assert_ne!(entry.kind, Kind::Meet.number());
+        Entry {
+            station: other(entry.station),
+            sender: other(entry.sender),
+            ..*entry
+        }
+    };
+    entries.iter().map(mirror).collect()
+}
+
+/// Lists that are accepted throughout.
+fn accepted() -> Vec<Vec<Entry>> {
+    vec![
+        every_kind(),
+        trains_with_grants(),
+        mirrored(&guests()),
+        meetings(),
+        meetings_of_one_sender(),
+        taken_back(),
+    ]
+}
+
+fn every_kind() -> Vec<Entry> {
+    vec![
+        Entry::begin(),
+        Entry::open(A, 10, 1, 1, 2),
+        Entry::receive(B, 70, A, 1),
+        Entry::send_back(B, 75, 3, 2),
+        Entry::receive(A, 95, B, 1),
+        Entry::train(A, 96, 1, 0, 0),
+        Entry::train(A, 126, 1, 1, 3),
+        Entry::receive(B, 150, A, 2),
+        Entry::receive(B, 180, A, 3),
+        Entry::train(B, 181, 3, 0, 0),
+        Entry::train(B, 211, 2, 0, 0),
+        Entry::train(B, 241, 1, 0, 1),
+        Entry::receive(A, 300, B, 2),
+        Entry::receive(A, 300, B, 3),
+        Entry::receive(A, 300, B, 4),
+        Entry::train(A, 300, 1, 0, 0),
+        Entry::receive(B, 300, A, 4),
+        Entry::through(A, 330, 2),
+        Entry::through(B, 330, 3),
+        Entry::meet(B, A, 5),
+        Entry::receive(B, 340, B, 5),
+        Entry::receive(B, 340, A, 5),
+        Entry::resume(),
+        Entry::begin(),
+        Entry::resume(),
+    ]
+}
+
+/// Replies and enquiries ride with the last train of each series.
+fn trains_with_grants() -> Vec<Entry> {
+    vec![
+        Entry::begin(),
+        Entry::open(A, 0, 2, 2, 8),
+        Entry::receive(B, 60, A, 1),
+        Entry::send_back(B, 60, 8, 1),
+        Entry::receive(A, 80, B, 1),
+        // The only train, and it grants all that was asked.
+        Entry::train(A, 80, 2, 7, 8),
+        Entry::receive(B, 100, A, 2),
+        Entry::train(B, 100, 3, 0, 0),
+        Entry::train(B, 130, 1, 1, 0),
+        Entry::train(B, 160, 2, 2, 0),
+        Entry::train(B, 190, 3, 0, 0),
+        Entry::train(B, 220, 1, 0, 0),
+        Entry::train(B, 250, 1, 0, 0),
+        Entry::train(B, 280, 1, 0, 0),
+        // The last of eight grants fewer than were asked.
+        Entry::train(B, 310, 1, 0, 6),
+        Entry::receive(A, 200, B, 2),
+        Entry::receive(A, 200, B, 3),
+        Entry::receive(A, 200, B, 4),
+        Entry::receive(A, 201, B, 5),
+        Entry::receive(A, 202, B, 6),
+        Entry::receive(A, 203, B, 7),
+        Entry::receive(A, 204, B, 8),
+        Entry::receive(A, 205, B, 9),
+        // A holds 6 and stands asked for 2; the enquiry outlives this train.
+        Entry::train(A, 205, 1, 5, 0),
+        Entry::receive(B, 400, A, 3),
+    ]
+}
+
+/// Openers of every class as guests, sent back with and without messages.
+fn guests() -> Vec<Entry> {
+    let mut entries = vec![Entry::begin()];
+    let messages = [(0, 0), (0, 1), (3, 0), (8, 0), (2, 5)];
+    let mut form = 1;
+    for (class, (asked, granted)) in (1..=5).zip(messages) {
+        let start = 100 * form;
+        entries.extend([
+            Entry::open(A, start, 1, class, class),
+            Entry::receive(B, start, A, form),
+            Entry::send_back(B, start + 5, asked, granted),
+            Entry::receive(A, start + 50, B, form),
+        ]);
+        if granted == 1 {
+            entries.extend([
+                Entry::train(A, start + 50, 3, 0, 0),
+                Entry::receive(B, start + 60, A, form + 1),
+                // So that form numbers keep step at both stations.
+                Entry::through(B, start + 60, 1),
+                Entry::receive(A, start + 60, B, form + 1),
+            ]);
+            form += 1;
+        }
+        form += 1;
+    }
+    entries
+}
+
+fn meetings() -> Vec<Entry> {
+    vec![
+        Entry::begin(),
+        Entry::open(A, 0, 1, 3, 1),
+        Entry::open(B, 0, 2, 4, 8),
+        Entry::meet(A, A, 1),
+        Entry::receive(A, 40, A, 1),
+        Entry::receive(A, 40, B, 1),
+        Entry::send_back(A, 41, 0, 8),
+        Entry::receive(B, 90, A, 2),
+        Entry::resume(),
+        Entry::begin(),
+        Entry::open(A, 0, 3, 5, 2),
+        Entry::through(B, 1, 1),
+        Entry::meet(B, A, 1),
+        Entry::receive(B, 9, B, 1),
+        Entry::receive(B, 9, A, 1),
+    ]
+}
+
+fn meetings_of_one_sender() -> Vec<Entry> {
+    vec![
+        Entry::begin(),
+        Entry::through(A, 0, 1),
+        Entry::through(A, 30, 1),
+        Entry::through(B, 0, 1),
+        Entry::meet(A, A, 1),
+        // Two of A's that head towards one another.
+        Entry::meet(B, A, 2),
+        // Two that have met before.
+        Entry::meet(B, A, 1),
+        Entry::receive(B, 90, B, 1),
+        Entry::receive(B, 90, A, 1),
+        Entry::receive(B, 90, A, 2),
+        Entry::resume(),
+    ]
+}
+
+/// Openers and through engines that come back to where they left.
+fn taken_back() -> Vec<Entry> {
+    vec![
+        Entry::begin(),
+        Entry::through(A, 5, 3),
+        Entry::through(A, 35, 2),
+        Entry::open(A, 65, 1, 4, 3),
+        Entry::receive(A, 66, A, 3),
+        Entry::open(A, 66, 1, 4, 3),
+        Entry::receive(A, 67, A, 4),
+        Entry::receive(A, 67, A, 2),
+        Entry::through(A, 67, 1),
+        Entry::receive(B, 2, A, 1),
+        Entry::receive(A, 68, A, 5),
+        Entry::resume(),
+    ]
+}
+
+/// Lists with refused entries.
+fn refused() -> Vec<Vec<Entry>> {
+    vec![
+        refused_throughout(),
+        mirrored(&refused_throughout()),
+        refused_meetings(),
+        twelve_of_each(),
+    ]
+}
+
+fn refused_throughout() -> Vec<Entry> {
+    let mut entries = Vec::new();
+    // 7 for every kind but BEGIN.
+    entries.extend([
+        Entry::resume(),
+        Entry::open(A, 1, 1, 1, 1),
+        Entry::through(A, 1, 1),
+        Entry::send_back(B, 1, 0, 0),
+        Entry::train(B, 1, 1, 0, 0),
+        Entry::receive(A, 1, B, 1),
+    ]);
+    // 6, and with an empty section 20, 14 and 15.
+    entries.extend([
+        Entry::begin(),
+        Entry::begin(),
+        Entry::receive(A, 0, A, 1),
+        Entry::receive(A, 0, B, 1),
+        Entry::send_back(A, 0, 0, 0),
+        Entry::train(B, 0, 1, 0, 0),
+    ]);
+    // An opener is away: 8, 9, 10, 20.
+    entries.extend([
+        Entry::open(A, 10, 1, 2, 4),
+        Entry::resume(),
+        Entry::open(A, 9, 1, 1, 1),
+        Entry::open(A, 10, 1, 1, 1),
+        Entry::through(A, 50, 1),
+        Entry::receive(A, 9, A, 1),
+        Entry::receive(B, 0, B, 1),
+        Entry::receive(B, 0, A, 2),
+    ]);
+    // It stands as a guest: 13, 15, 16, 9.
+    entries.extend([
+        Entry::receive(B, 70, A, 1),
+        Entry::open(B, 70, 1, 1, 1),
+        Entry::through(B, 70, 1),
+        Entry::train(B, 70, 1, 0, 0),
+        Entry::send_back(B, 70, 0, 5),
+        Entry::send_back(B, 69, 0, 5),
+    ]);
+    // It is sent back: 14, 12, 21.
+    entries.extend([
+        Entry::send_back(B, 75, 3, 2),
+        Entry::send_back(B, 105, 0, 0),
+        Entry::open(B, 105, 1, 1, 1),
+        Entry::through(B, 105, 1),
+        Entry::receive(B, 105, B, 1),
+    ]);
+    // Line clears are held: 11, 16, 19, 21, 15.
+    entries.extend([
+        Entry::receive(A, 95, B, 1),
+        Entry::open(A, 95, 1, 1, 1),
+        Entry::through(A, 95, 1),
+        Entry::send_back(A, 95, 0, 0),
+        Entry::train(A, 95, 1, 0, 1),
+        Entry::train(A, 95, 1, 0, 0),
+        Entry::train(A, 124, 1, 0, 0),
+        Entry::receive(A, 124, A, 2),
+        Entry::train(A, 125, 1, 0, 4),
+        Entry::train(A, 125, 1, 0, 3),
+        Entry::train(A, 155, 1, 0, 0),
+        Entry::resume(),
+    ]);
+    entries
+}
+
+fn refused_meetings() -> Vec<Entry> {
+    vec![
+        Entry::meet(A, A, 1),
+        Entry::begin(),
+        Entry::meet(A, A, 1),
+        Entry::through(A, 0, 1),
+        // No neighbour, then one that heads the same way.
+        Entry::meet(A, A, 1),
+        Entry::through(A, 30, 1),
+        Entry::meet(A, A, 2),
+        Entry::open(B, 0, 1, 1, 1),
+        // Not present, and the one nearer B.
+        Entry::meet(A, A, 3),
+        Entry::meet(B, B, 1),
+        Entry::meet(B, A, 1),
+        Entry::meet(B, A, 1),
+        // Both go to B now.
+        Entry::receive(A, 40, A, 1),
+        Entry::receive(B, 40, A, 1),
+        Entry::receive(B, 40, B, 1),
+        Entry::open(B, 40, 1, 1, 1),
+        Entry::meet(A, A, 1),
+        // Both go to A, A's second behind them still to B.
+        Entry::receive(B, 40, B, 2),
+        Entry::receive(A, 40, A, 1),
+        Entry::meet(A, A, 2),
+        Entry::receive(A, 40, A, 2),
+        Entry::receive(A, 40, A, 1),
+        Entry::receive(A, 40, B, 2),
+        Entry::meet(A, A, 1),
+    ]
+}
+
+/// Twelve through engines from each station, and a thirteenth from each.
+fn twelve_of_each() -> Vec<Entry> {
+    let mut entries = vec![Entry::begin()];
+    for number in 0..=u16::from(Section::MOST_SENT) {
+        let time = Section::INTERVAL * number;
+        entries.push(Entry::through(A, time, 1));
+        entries.push(Entry::through(B, time, 2));
+    }
+    entries.extend([
+        Entry::meet(B, A, 1),
+        Entry::receive(B, 400, B, 12),
+        Entry::through(B, 400, 3),
+        Entry::resume(),
+    ]);
+    entries
+}
+
+/// The edges of the document that a short log reaches.
+fn edges() -> Vec<u8> {
+    let mut log = bytes_of(&Entry::begin());
+    // (a) and (b)
+    log.push(0);
+    for asked in [9, 0, 8] {
+        log.extend([0x3F, 2, 2, 0, 10, 3, 4, asked]);
+    }
+    let entries = [
+        // (j) was the last of them. (l) takes it back; (c) on the way.
+        Entry::receive(B, 9, B, 1),
+        Entry::receive(B, 10, B, 1),
+        Entry::open(B, 10, 1, 1, 3),
+        // (k), then (g) with three asked for.
+        Entry::send_back(A, 0, 0, 0),
+        Entry::receive(A, 0, B, 2),
+        Entry::send_back(A, 0, 0, 4),
+        Entry::send_back(A, 0, 0, 3),
+        Entry::receive(B, 10, A, 1),
+        // (i): nothing in the section, and three line clears owed.
+        Entry::resume(),
+        Entry::begin(),
+        // (d)
+        Entry::through(A, 100, 1),
+        Entry::through(A, 129, 1),
+        Entry::through(A, 130, 1),
+        Entry::receive(B, 0, A, 1),
+        Entry::receive(B, 0, A, 2),
+        Entry::resume(),
+        Entry::begin(),
+        // (h)
+        Entry::open(A, 0, 1, 1, 1),
+        Entry::open(B, 0, 1, 1, 1),
+        Entry::meet(B, A, 1),
+        Entry::receive(A, 40, A, 1),
+        Entry::receive(B, 40, A, 1),
+        Entry::receive(B, 40, B, 1),
+    ];
+    log.extend(written(&entries));
+    log
+}
+
+/// The session with bytes that are no entry between its entries, and bytes that
+/// are no entry alone.
+fn bytes_refused() -> Vec<Vec<u8>> {
+    let strewn = NO_ENTRIES.chunks(SESSION.len()).map(|bad| {
+        let pairs = bad.iter().zip(SESSION);
+        pairs
+            .flat_map(|((_, bad), good)| [good, bad].concat())
+            .collect()
+    });
+    let alone = NO_ENTRIES
+        .iter()
+        .flat_map(|(_, bad)| bad.to_vec())
+        .collect();
+    strewn.chain([alone]).collect()
+}
+
+fn cut() -> Vec<Vec<u8>> {
+    let session = SESSION.concat();
+    let mut logs: Vec<Vec<u8>> = [1, 9, 27, 49]
+        .iter()
+        .map(|&length| session[..length].to_vec())
+        .collect();
+    // 1 comes before 2, 3 and 4; and behind bytes refused with them.
+    logs.extend([
+        vec![0x01, 1, 0x02],
+        vec![0x01, 1, 0x03, 9],
+        vec![0x01, 1, 0x07, 4, 3, 0],
+        vec![0x00, 0x01, 2, 0x07, 4, 3, 0, 10, 0x80],
+    ]);
+    logs
+}
+
+fn generated() -> Vec<Vec<u8>> {
+    let strewn = SEEDS.map(|seed| generator::log(seed, ENTRIES, Options::default()));
+    let accepted = ACCEPTED_SEEDS.map(|seed| {
+        let options = Options {
+            accepted: true,
+            full: seed == ACCEPTED_SEEDS[3],
+            ..Options::default()
+        };
+        generator::log(seed, ENTRIES, options)
+    });
+    strewn.into_iter().chain(accepted).collect()
+}
+
+#[cfg(test)]
+mod tests {
+    use super::*;
+    use crate::log::Run;
+
+    fn answers(log: &[u8]) -> Vec<(u8, u8)> {
+        Run::new(log)
+            .map(|line| {
+                (
+                    line.kind(),
+                    line.answer.map_or_else(|no| no.number(), |_| 0),
+                )
+            })
+            .collect()
+    }
+
+    #[test]
+    fn the_accepted_lists_are_accepted_throughout() {
+        for entries in accepted() {
+            let answers = answers(&written(&entries));
+            assert!(answers.iter().all(|answer| answer.1 == 0), "{answers:?}");
+        }
+        let mut kinds: Vec<u8> = every_kind().iter().map(|entry| entry.kind).collect();
+        kinds.sort_unstable();
+        kinds.dedup();
+        assert_eq!(kinds, [1, 2, 3, 4, 5, 6, 7, 8]);
+    }
+
+    #[test]
+    fn the_refused_lists_are_refused_as_their_comments_say() {
+        let numbers = |entries: &[Entry]| -> Vec<u8> {
+            answers(&written(entries))
+                .iter()
+                .map(|answer| answer.1)
+                .collect()
+        };
+        let throughout = [
+            7, 7, 7, 7, 7, 7, 0, 6, 20, 20, 14, 15, 0, 8, 9, 10, 10, 9, 20, 20, 0, 13, 13, 15, 16,
+            9, 0, 14, 12, 12, 21, 0, 11, 11, 11, 16, 0, 19, 21, 16, 0, 15, 8,
+        ];
+        assert_eq!(numbers(&refused_throughout()), throughout);
+        assert_eq!(numbers(&mirrored(&refused_throughout())), throughout);
+        let meetings = [
+            7, 0, 22, 0, 22, 0, 22, 0, 22, 22, 0, 22, 20, 20, 0, 0, 0, 21, 20, 0, 0, 0, 0, 22,
+        ];
+        assert_eq!(numbers(&refused_meetings()), meetings);
+        let twelve = numbers(&twelve_of_each());
+        assert!(twelve[..25].iter().all(|&answer| answer == 0));
+        assert_eq!(twelve[25..], [17, 17, 0, 0, 0, 8]);
+    }
+
+    #[test]
+    fn the_edges_are_answered_as_the_document_says() {
+        let numbers: Vec<u8> = answers(&edges()).iter().map(|answer| answer.1).collect();
+        let expected = [
+            0, 2, 4, 4, 0, 9, 0, 0, 14, 0, 16, 0, 0, 0, 0, 0, 19, 0, 0, 0, 0, 0, 0, 0, 0, 21, 20, 0,
+        ];
+        assert_eq!(numbers, expected);
+    }
+
+    #[test]
+    fn cut_logs_end_with_1() {
+        for log in cut() {
+            let last = *answers(&log).last().unwrap();
+            assert_eq!(last, (0, 1), "{log:?}");
+        }
+    }
+
+    #[test]
+    fn generated_logs_are_as_wished_for() {
+        let logs = generated();
+        let mut refusals = 0;
+        for log in &logs[..SEEDS.len()] {
+            let answers = answers(log);
+            assert_eq!(answers.len(), ENTRIES);
+            refusals += answers.iter().filter(|answer| answer.1 > 0).count();
+        }
+        assert!(refusals > 50, "{refusals}");
+        for log in &logs[SEEDS.len()..] {
+            let answers = answers(log);
+            assert_eq!(answers.len(), ENTRIES);
+            assert!(answers.iter().all(|answer| answer.1 == 0));
+        }
+    }
+}

@@ -1,0 +1,211 @@
+//! A section as bytes, figure by figure, as the stored cases hold it.
+//!
+//! This is a form in which sections are carried from one program to another.
+//! It holds ill-made sections as well as well-made ones, but not every section
+//! that [`Section`] can hold: see [`Section::figures`].
+
+use crate::entry::Kind;
+use crate::section::{Desk, Section, Vehicle};
+
+/// The bytes of one place: kind, asked, granted, sender, form number (2),
+/// heading, met, class.
+const PLACE_LENGTH: usize = 9;
+
+/// The bytes of one desk: clock (2), last form number (2), sent, interval
+/// running, its minute (2), out, guest, asked, holds, owes.
+const DESK_LENGTH: usize = 13;
+
+/// The bytes of a section: its places, the vehicles present, in force, the
+/// count (4), and the desks of A and B.
+pub const FIGURES_LENGTH: usize =
+    Section::MOST_VEHICLES * PLACE_LENGTH + 1 + 1 + 4 + 2 * DESK_LENGTH;
+
+/// The figures of a section; those of more than one byte high byte first.
+pub type Figures = [u8; FIGURES_LENGTH];
+
+/// One number for all the figures of a section.
+#[must_use]
+pub fn digest(figures: &Figures) -> u32 {
+    figures.iter().fold(0_u32, |digest, &figure| {
+        digest.wrapping_mul(31).wrapping_add(figure.into())
+    })
+}
+
+impl Section {
+    /// The figures of this section.
+    ///
+    /// None where they have no room for it: more than 255 vehicles; a vehicle
+    /// that left on something other than a departure; line clears on an OPEN or
+    /// where there is no kind, and messages on a THROUGH or where there is no
+    /// kind; and an OPEN with 0 in every figure, which stands for no vehicle.
+    #[must_use]
+    pub fn figures(&self) -> Option<Figures> {
+        let mut bytes = Vec::with_capacity(FIGURES_LENGTH);
+        for place in &self.places {
+            bytes.extend(place_figures(place)?);
+        }
+        bytes.push(u8::try_from(self.present).ok()?);
+        bytes.push(self.in_force.into());
+        bytes.extend(self.refused.to_be_bytes());
+        bytes.extend(self.desks.iter().flat_map(desk_figures));
+        bytes.try_into().ok()
+    }
+
+    /// The section with these figures; none where no section has them.
+    #[must_use]
+    pub fn from_figures(figures: &Figures) -> Option<Section> {
+        let mut rest = Rest(figures);
+        let section = Section {
+            places: std::array::from_fn(|_| rest.place()),
+            present: rest.byte().into(),
+            in_force: rest.flag(),
+            refused: u32::from_be_bytes(rest.next()),
+            desks: std::array::from_fn(|_| rest.desk()),
+        };
+        // A flag of 2, a kind that is none of the four or the minute of an
+        // interval that does not run has not found its way into the section.
+        (section.figures().as_ref() == Some(figures)).then_some(section)
+    }
+}
+
+fn place_figures(vehicle: &Vehicle) -> Option<[u8; PLACE_LENGTH]> {
+    let has_room = match vehicle.left_on {
+        None | Some(Kind::Through) => vehicle.asked == 0 && vehicle.granted == 0,
+        Some(Kind::Open) => vehicle.granted == 0 && !is_zero_but_for_its_kind(vehicle),
+        Some(Kind::Return | Kind::Train) => true,
+        Some(_) => false,
+    };
+    let [form_high, form_low] = vehicle.form.to_be_bytes();
+    has_room.then_some([
+        vehicle.left_on.map_or(0, Kind::number),
+        vehicle.asked,
+        vehicle.granted,
+        vehicle.sender,
+        form_high,
+        form_low,
+        vehicle.heading,
+        vehicle.met.into(),
+        vehicle.class,
+    ])
+}
+
+fn is_zero_but_for_its_kind(vehicle: &Vehicle) -> bool {
+    *vehicle
+        == Vehicle {
+            left_on: vehicle.left_on,
+            ..Vehicle::default()
+        }
+}
+
+fn desk_figures(desk: &Desk) -> [u8; DESK_LENGTH] {
+    let [clock_high, clock_low] = desk.clock.to_be_bytes();
+    let [form_high, form_low] = desk.last_form.to_be_bytes();
+    let [minute_high, minute_low] = desk.interval.unwrap_or(0).to_be_bytes();
+    [
+        clock_high,
+        clock_low,
+        form_high,
+        form_low,
+        desk.sent,
+        desk.interval.is_some().into(),
+        minute_high,
+        minute_low,
+        desk.out.into(),
+        desk.guest,
+        desk.asked,
+        desk.holds,
+        desk.owes,
+    ]
+}
+
+/// The figures that are still to be read.
+struct Rest<'a>(&'a [u8]);
+
+impl Rest<'_> {
+    // The order of the fields is the order in which they are read, so they
+    // stand here in the order of the figures.
+
+    fn place(&mut self) -> Vehicle {
+        let left_on = Kind::from_number(self.byte());
+        let (asked, granted) = (self.byte(), self.byte());
+        Vehicle {
+            left_on,
+            sender: self.byte(),
+            form: self.pair(),
+            heading: self.byte(),
+            met: self.flag(),
+            class: self.byte(),
+            asked,
+            granted,
+        }
+    }
+
+    fn desk(&mut self) -> Desk {
+        Desk {
+            clock: self.pair(),
+            last_form: self.pair(),
+            sent: self.byte(),
+            interval: self.interval(),
+            out: self.flag(),
+            guest: self.byte(),
+            asked: self.byte(),
+            holds: self.byte(),
+            owes: self.byte(),
+        }
+    }
+
+    fn interval(&mut self) -> Option<u16> {
+        let runs = self.flag();
+        let minute = self.pair();
+        runs.then_some(minute)
+    }
+
+    fn flag(&mut self) -> bool {
+        self.byte() == 1
+    }
+
+    fn byte(&mut self) -> u8 {
+        self.next::<1>()[0]
+    }
+
+    fn pair(&mut self) -> u16 {
+        u16::from_be_bytes(self.next())
+    }
+
+    /// The figures of a section are as many as are read, so they do not run out.
+    fn next<const N: usize>(&mut self) -> [u8; N] {
+        match self.0.split_first_chunk::<N>() {
+            Some((next, rest)) => {
+                self.0 = rest;
+                *next
+            }
+            None => [0; N],
+        }
+    }
+}
+
+#[cfg(test)]
+mod tests {
+    use super::*;
+
+    #[test]
+    fn there_are_248_of_them() {
+        assert_eq!(FIGURES_LENGTH, 248);
+        assert_eq!(Section::fresh().figures(), Some([0; 248]));
+        assert_eq!(Section::from_figures(&[0; 248]), Some(Section::fresh()));
+    }
+
+    #[test]
+    fn the_digest_is_taken_figure_by_figure() {
+        let mut figures = [0; FIGURES_LENGTH];
+        assert_eq!(digest(&figures), 0);
+        figures[247] = 5;
+        assert_eq!(digest(&figures), 5);
+        figures[246] = 2;
+        assert_eq!(digest(&figures), 2 * 31 + 5);
+        // 31 to the seventh is 27,512,614,111, which is over the largest.
+        figures[240] = 1;
+        let exact = 27_512_614_111_u64 + 2 * 31 + 5;
+        assert_eq!(u64::from(digest(&figures)), exact % 4_294_967_296);
+    }
+}

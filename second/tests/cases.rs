@@ -1,0 +1,616 @@
+//! The stored cases: what is among them, some worked out by hand from the
+//! document, and the program that writes them.
+
+use std::collections::BTreeSet;
+use std::process::{Command, Output};
+use std::sync::LazyLock;
+
+use second::cases::{all, expected, input, Case, LONGEST};
+use second::figures::Figures;
+use second::{Entry, Kind, Section, Station, Vehicle};
+
+static CASES: LazyLock<Vec<Case>> = LazyLock::new(all);
+
+const SESSION: [&[u8]; 8] = [
+    &[0x01, 0x01],
+    &[0x3F, 0x02, 0x01, 0x00, 0x0A, 0x01, 0x01, 0x02],
+    &[0x87, 0x06, 0x02, 0x00, 0x46, 0x01, 0x00, 0x01],
+    &[0x47, 0x04, 0x02, 0x00, 0x4B, 0x02],
+    &[0x87, 0x06, 0x01, 0x00, 0x5F, 0x02, 0x00, 0x01],
+    &[0x0F, 0x05, 0x01, 0x00, 0x60, 0x01],
+    &[0x0F, 0x05, 0x01, 0x00, 0x7D, 0x01],
+    &[0x0F, 0x05, 0x01, 0x00, 0x7E, 0x01],
+];
+
+// Where the figures of a section start.
+const PRESENT: usize = 24 * 9;
+const IN_FORCE: usize = PRESENT + 1;
+const COUNT: usize = PRESENT + 2;
+const DESK_A: usize = PRESENT + 6;
+const DESK_B: usize = DESK_A + 13;
+
+/// The figures of a section, of which all others are 0.
+fn figures(runs: &[(usize, &[u8])]) -> Figures {
+    let mut figures = [0; 248];
+    for &(start, run) in runs {
+        figures[start..start + run.len()].copy_from_slice(run);
+    }
+    figures
+}
+
+/// The digest in larger numbers than it is given in.
+fn digest(figures: &Figures) -> u64 {
+    let digit = |digest: u64, &figure: &u8| (digest * 31 + u64::from(figure)) % 4_294_967_296;
+    figures.iter().fold(0, digit)
+}
+
+fn hex(bytes: &[u8]) -> String {
+    bytes.iter().map(|byte| format!("{byte:02x}")).collect()
+}
+
+fn lines(lines: &[String]) -> String {
+    lines.iter().map(|line| format!("{line}\n")).collect()
+}
+
+fn log_case(log: &[u8]) -> Case {
+    Case::Log { log: log.to_vec() }
+}
+
+#[track_caller]
+fn step_case(figures: &Figures, bytes: &[u8]) -> Case {
+    Case::Step {
+        section: Box::new(Section::from_figures(figures).expect("a section")),
+        bytes: bytes.to_vec(),
+    }
+}
+
+/// Both forms of the step give this answer and leave these figures.
+#[track_caller]
+fn expect_step(before: &Figures, bytes: &[u8], answer: &str, after: &Figures) {
+    let section = hex(after);
+    let expected = lines(&[
+        format!("step {}", bytes.len()),
+        format!("value {answer}"),
+        format!("value {section}"),
+        format!("memory {answer}"),
+        format!("memory {section}"),
+    ]);
+    assert_eq!(step_case(before, bytes).expected(), expected);
+}
+
+#[test]
+fn the_session_by_hand() {
+    let in_force = (IN_FORCE, &[1][..]);
+    let one = (PRESENT, &[1][..]);
+    let a_after_open = (DESK_A, &[0, 10, 0, 1, 1, 1, 0, 10, 1][..]);
+    let b_after_return = (DESK_B, &[0, 75, 0, 1, 1, 1, 0, 75, 0, 0, 0, 0, 2][..]);
+    let train_2 = &[5, 0, 0, 1, 0, 2, 2, 0, 0][..];
+    let trains_3_and_2 = &[5, 0, 0, 1, 0, 3, 2, 0, 0, 5, 0, 0, 1, 0, 2, 2, 0, 0][..];
+    let a_after_train = (DESK_A, &[0, 96, 0, 2, 1, 1, 0, 96, 0, 0, 0, 1][..]);
+    let after = [
+        figures(&[in_force]),
+        // OPEN: class 1, asked 2, form 1; out is set.
+        figures(&[
+            (0, &[2, 2, 0, 1, 0, 1, 2, 0, 1]),
+            one,
+            in_force,
+            a_after_open,
+        ]),
+        // B has a guest of class 1 and is asked for 2.
+        figures(&[
+            in_force,
+            a_after_open,
+            (DESK_B, &[0, 70, 0, 0, 0, 0, 0, 0, 0, 1, 2]),
+        ]),
+        // RETURN: the guest's class, granted 2; B owes 2.
+        figures(&[
+            (0, &[4, 0, 2, 2, 0, 1, 1, 0, 1]),
+            one,
+            in_force,
+            a_after_open,
+            b_after_return,
+        ]),
+        // A's opener is home, sent is 0, A holds 2.
+        figures(&[
+            in_force,
+            (DESK_A, &[0, 95, 0, 1, 0, 0, 0, 0, 0, 0, 0, 2]),
+            b_after_return,
+        ]),
+        figures(&[(0, train_2), one, in_force, a_after_train, b_after_return]),
+        // 19 is counted.
+        figures(&[
+            (0, train_2),
+            one,
+            in_force,
+            (COUNT, &[0, 0, 0, 1]),
+            a_after_train,
+            b_after_return,
+        ]),
+        // The follower stands nearer A.
+        figures(&[
+            (0, trains_3_and_2),
+            (PRESENT, &[2]),
+            in_force,
+            (COUNT, &[0, 0, 0, 1]),
+            (DESK_A, &[0, 126, 0, 3, 2, 1, 0, 126]),
+            b_after_return,
+        ]),
+    ];
+    let read = [
+        "at 0 entry 1 1 0 0 0 0 0 0 0 0 next 2",
+        "at 2 entry 63 2 1 10 1 1 2 0 0 0 next 10",
+        "at 10 entry 135 6 2 70 0 0 0 0 1 1 next 18",
+        "at 18 entry 71 4 2 75 0 0 0 2 0 0 next 24",
+        "at 24 entry 135 6 1 95 0 0 0 0 2 1 next 32",
+        "at 32 entry 15 5 1 96 1 0 0 0 0 0 next 38",
+        "at 38 entry 15 5 1 125 1 0 0 0 0 0 next 44",
+        "at 44 entry 15 5 1 126 1 0 0 0 0 0 next 50",
+    ];
+    // The lines of the session, from the fourth word on.
+    let answers = [
+        "ok 0 0 -",
+        "ok 1 7 15",
+        "ok 0 0 -",
+        "ok 1 180 B",
+        "ok 0 0 -",
+        "ok 2 168 B",
+        "no 19",
+        "ok 3 104 25",
+    ];
+    let ends = [2, 10, 18, 24, 32, 38, 44, 50];
+    let mut expected = vec!["log 50".to_owned()];
+    for entry in 0..8 {
+        let digest = digest(&after[entry]);
+        expected.extend([
+            read[entry].to_owned(),
+            format!("value {} {digest}", answers[entry]),
+            format!("memory {} {digest}", answers[entry]),
+            format!("append filled {}", ends[entry]),
+        ]);
+    }
+    let log = SESSION.concat();
+    expected.extend([
+        "at 50 end next 50".to_owned(),
+        format!("value {}", hex(&after[7])),
+        format!("memory {}", hex(&after[7])),
+        format!("copy {}", hex(&log)),
+    ]);
+    assert_eq!(log_case(&log).expected(), lines(&expected));
+    assert!(CASES.contains(&log_case(&log)));
+}
+
+#[test]
+fn bytes_refused_and_a_cut_end_by_hand() {
+    // Map 0, BEGIN with a station, BEGIN, an opener asking for 9, a cut TRAIN.
+    let log = [
+        0x00, 0x03, 1, 1, 0x01, 1, 0x3F, 2, 1, 0, 10, 1, 1, 9, 0x0F, 5, 1,
+    ];
+    let of = |in_force, count| figures(&[(IN_FORCE, &[in_force, 0, 0, 0, count])]);
+    let mut expected = vec!["log 17".to_owned()];
+    let mut add = |read: &str, answer: &str, after: &Figures| {
+        expected.push(read.to_owned());
+        expected.push(format!("value {answer} {}", digest(after)));
+        expected.push(format!("memory {answer} {}", digest(after)));
+    };
+    add("at 0 no 2 next 1", "no 2", &of(0, 1));
+    add("at 1 no 3 next 4", "no 3", &of(0, 2));
+    let begin = "at 4 entry 1 1 0 0 0 0 0 0 0 0 next 6";
+    add(begin, "ok 0 0 -", &of(1, 2));
+    add("at 6 no 4 next 14", "no 4", &of(1, 3));
+    add("at 14 no 1 next 14", "no 1", &of(1, 4));
+    // Behind the three lines of each of the first three.
+    expected.insert(10, "append filled 2".to_owned());
+    let section = hex(&of(1, 4));
+    expected.push(format!("value {section}"));
+    expected.push(format!("memory {section}"));
+    expected.push("copy 0101".to_owned());
+    assert_eq!(log_case(&log).expected(), lines(&expected));
+}
+
+#[test]
+fn an_empty_log_by_hand() {
+    let zeros = "00".repeat(248);
+    let expected = format!("log 0\nat 0 end next 0\nvalue {zeros}\nmemory {zeros}\ncopy \n");
+    assert_eq!(log_case(&[]).expected(), expected);
+    assert_eq!(log_case(&[]).input(), [1, 0, 0]);
+    assert!(CASES.contains(&log_case(&[])));
+}
+
+#[test]
+fn ill_made_sections_by_hand() {
+    // In force, and A has sent 13.
+    let sent_13 = figures(&[(IN_FORCE, &[1]), (DESK_A + 4, &[13])]);
+    for bytes in [
+        &[][..],
+        &[0x01],
+        &[0x00],
+        &[0x01, 2],
+        &[0x01, 8],
+        &[0x01, 1],
+    ] {
+        expect_step(&sent_13, bytes, "no 5", &sent_13);
+    }
+    // Not in force, and B's clock is not as fresh.
+    let late = figures(&[(DESK_B, &[0, 1])]);
+    expect_step(&late, &[0x01, 1], "no 5", &late);
+    assert!(CASES.iter().any(|case| match case {
+        Case::Step { section, .. } => !section.in_force && section.desks[1].clock == 1,
+        _ => false,
+    }));
+    // One through engine of sender 3.
+    let third = figures(&[
+        (0, &[3, 0, 0, 3, 0, 1, 2, 0, 1]),
+        (PRESENT, &[1, 1]),
+        (DESK_A, &[0, 0, 0, 1, 1]),
+        (DESK_B, &[0, 0, 0, 1, 1]),
+    ]);
+    expect_step(&third, &[0x01, 8], "no 5", &third);
+}
+
+#[test]
+fn form_9999_and_the_count_by_hand() {
+    let through = [0x1F, 3, 1, 0, 9, 3, 1];
+    let before = figures(&[(IN_FORCE, &[1]), (DESK_A, &[0, 9, 0x27, 0x0E, 11])]);
+    let after = figures(&[
+        (0, &[3, 0, 0, 1, 0x27, 0x0F, 2, 0, 1]),
+        (PRESENT, &[1, 1]),
+        (DESK_A, &[0, 9, 0x27, 0x0F, 12, 1, 0, 9]),
+    ]);
+    expect_step(&before, &through, "ok 9999 1 W", &after);
+    let used_up = figures(&[
+        (IN_FORCE, &[1, 0xFF, 0xFF, 0xFF, 0xFE]),
+        (DESK_A, &[0, 9, 0x27, 0x0F]),
+    ]);
+    let counted = figures(&[
+        (IN_FORCE, &[1, 0xFF, 0xFF, 0xFF, 0xFF]),
+        (DESK_A, &[0, 9, 0x27, 0x0F]),
+    ]);
+    expect_step(&used_up, &through, "no 18", &counted);
+    expect_step(&counted, &through, "no 18", &counted);
+    let mut input = vec![2];
+    input.extend(counted);
+    input.extend([0, 7]);
+    input.extend(through);
+    assert_eq!(step_case(&counted, &through).input(), input);
+}
+
+#[test]
+fn buffers_by_hand() {
+    let receive = Entry::receive(Station::A, 0x0102, Station::B, 0x0304);
+    let case = |entry, fill, buffer: &[u8]| Case::Write {
+        entry,
+        fill,
+        buffer: buffer.to_vec(),
+    };
+    let written = case(receive, 1, &[0xEE; 10]);
+    let expected = "write 1 10\nappend filled 9\nbuffer ee8706010102020304ee\n\
+        front filled 8\nbuffer 8706010102020304eeee\n";
+    assert_eq!(written.expected(), expected);
+    let input = [
+        3, 0x87, 6, 1, 1, 2, 0, 0, 0, 0, 2, 3, 4, 0, 1, 0, 10, 0xEE, 0xEE, 0xEE, 0xEE, 0xEE, 0xEE,
+        0xEE, 0xEE, 0xEE, 0xEE,
+    ];
+    assert_eq!(written.input(), input);
+    // One byte short behind the fill point, but not at the front.
+    let short = case(receive, 1, &[0xEE; 8]).expected();
+    let expected = "write 1 8\nappend no 23\nbuffer eeeeeeeeeeeeeeee\n\
+        front filled 8\nbuffer 8706010102020304\n";
+    assert_eq!(short, expected);
+    let none = case(receive, 9, &[]).expected();
+    assert_eq!(
+        none,
+        "write 9 0\nappend no 23\nbuffer \nfront no 23\nbuffer \n"
+    );
+    // An absent field that is not 0 comes before the room.
+    let stray = Entry {
+        form: 1,
+        ..Entry::begin()
+    };
+    let refused = case(stray, 2, &[7]).expected();
+    assert_eq!(
+        refused,
+        "write 2 1\nappend no 4\nbuffer 07\nfront no 4\nbuffer 07\n"
+    );
+}
+
+#[test]
+fn positions_by_hand() {
+    let log = SESSION.concat();
+    let read = |position, log: &[u8]| {
+        let case = Case::Read {
+            position,
+            log: log.to_vec(),
+        };
+        case.expected()
+    };
+    let entry = "read 18 50\nat 18 entry 71 4 2 75 0 0 0 2 0 0 next 24\n";
+    assert_eq!(read(18, &log), entry);
+    // Inside an entry: 02 has no kind, 01 0A is of no kind.
+    assert_eq!(read(3, &log), "read 3 50\nat 3 no 2 next 5\n");
+    assert_eq!(read(49, &log), "read 49 50\nat 49 no 1 next 49\n");
+    assert_eq!(read(50, &log), "read 50 50\nat 50 end next 50\n");
+    assert_eq!(read(51, &log), "read 51 50\nat 51 no 1 next 51\n");
+    assert_eq!(
+        read(65_535, &[]),
+        "read 65535 0\nat 65535 no 1 next 65535\n"
+    );
+    let case = Case::Read {
+        position: 258,
+        log: vec![7],
+    };
+    assert_eq!(case.input(), [4, 1, 2, 0, 1, 7]);
+}
+
+/// Reads the input as the other program has to.
+fn parsed(mut input: &[u8]) -> Vec<Case> {
+    fn take<'a>(input: &mut &'a [u8], length: usize) -> &'a [u8] {
+        let (taken, rest) = input.split_at(length);
+        *input = rest;
+        taken
+    }
+    fn pair(input: &mut &[u8]) -> u16 {
+        u16::from_be_bytes(take(input, 2).try_into().unwrap())
+    }
+    fn bytes(input: &mut &[u8]) -> Vec<u8> {
+        let length = usize::from(pair(input));
+        assert!(length <= LONGEST);
+        take(input, length).to_vec()
+    }
+    let mut cases = Vec::new();
+    while !input.is_empty() {
+        let case = match take(&mut input, 1)[0] {
+            1 => Case::Log {
+                log: bytes(&mut input),
+            },
+            2 => {
+                let figures: &Figures = take(&mut input, 248).try_into().unwrap();
+                let section = Box::new(Section::from_figures(figures).unwrap());
+                Case::Step {
+                    section,
+                    bytes: bytes(&mut input),
+                }
+            }
+            3 => {
+                let &[map, kind, station, t1, t0, view, class, asked, granted, sender, f1, f0] =
+                    take(&mut input, 12)
+                else {
+                    unreachable!()
+                };
+                let entry = Entry {
+                    map,
+                    kind,
+                    station,
+                    time: u16::from_be_bytes([t1, t0]),
+                    view,
+                    class,
+                    asked,
+                    granted,
+                    sender,
+                    form: u16::from_be_bytes([f1, f0]),
+                };
+                let fill = pair(&mut input);
+                Case::Write {
+                    entry,
+                    fill,
+                    buffer: bytes(&mut input),
+                }
+            }
+            4 => Case::Read {
+                position: pair(&mut input),
+                log: bytes(&mut input),
+            },
+            other => panic!("case {other}"),
+        };
+        cases.push(case);
+    }
+    cases
+}
+
+#[test]
+fn the_input_is_read_back() {
+    let input = input(&CASES);
+    assert_eq!(parsed(&input), *CASES);
+    assert_eq!(all(), *CASES);
+    assert!(input.len() < 250_000, "{}", input.len());
+}
+
+#[test]
+fn the_sections_are_such_as_both_programs_can_hold() {
+    for case in CASES.iter() {
+        let Case::Step { section, .. } = case else {
+            continue;
+        };
+        assert!(section.figures().is_some());
+        for (place, vehicle) in section.places.iter().enumerate() {
+            let used = place < section.present;
+            match vehicle.left_on {
+                None => assert!(!used && *vehicle == Vehicle::default(), "{section:?}"),
+                Some(kind) => assert!(kind.is_departure(), "{section:?}"),
+            }
+        }
+    }
+}
+
+/// The expected lines of all cases of one type.
+fn lines_of(wanted: fn(&Case) -> bool) -> Vec<String> {
+    let cases = CASES.iter().filter(|case| wanted(case));
+    let texts = cases.map(Case::expected);
+    texts
+        .flat_map(|text| text.lines().map(str::to_owned).collect::<Vec<_>>())
+        .collect()
+}
+
+/// The numbers that follow `no` in the lines starting with this word.
+fn refusals(lines: &[String], word: &str) -> BTreeSet<u8> {
+    let start = format!("{word} no ");
+    lines
+        .iter()
+        .filter_map(|line| line.strip_prefix(&start))
+        .filter_map(|rest| rest.split(' ').next()?.parse().ok())
+        .collect()
+}
+
+#[test]
+fn the_logs_have_every_kind_and_every_refusal_that_a_short_log_reaches() {
+    let lines = lines_of(|case| matches!(case, Case::Log { .. }));
+    let expected: BTreeSet<u8> = (1..=22)
+        .filter(|number| ![5, 18].contains(number))
+        .collect();
+    assert_eq!(refusals(&lines, "value"), expected);
+    assert_eq!(refusals(&lines, "memory"), expected);
+    assert_eq!(refusals(&lines, "append"), BTreeSet::new());
+    let mut accepted = BTreeSet::new();
+    for pair in lines.windows(2) {
+        let words: Vec<&str> = pair[0].split(' ').collect();
+        if words.get(2) == Some(&"entry") && pair[1].starts_with("value ok ") {
+            accepted.insert(words[4].parse::<u8>().unwrap());
+        }
+    }
+    let kinds: BTreeSet<u8> = Kind::ALL.map(Kind::number).into();
+    assert_eq!(accepted, kinds);
+}
+
+#[test]
+fn the_sections_have_every_refusal() {
+    let lines = lines_of(|case| matches!(case, Case::Step { .. }));
+    let expected: BTreeSet<u8> = (1..=22).collect();
+    assert_eq!(refusals(&lines, "value"), expected);
+    assert_eq!(refusals(&lines, "memory"), expected);
+    // Every kind is accepted on some section, form 9,999 among them.
+    let mut accepted = BTreeSet::new();
+    for case in CASES.iter() {
+        if let Case::Step { section, bytes } = case {
+            if second::step(section, bytes).0.is_ok() {
+                accepted.insert(bytes[1]);
+            }
+        }
+    }
+    assert_eq!(accepted, (1..=8).collect());
+    assert!(lines.iter().any(|line| line.starts_with("value ok 9999 ")));
+}
+
+#[test]
+fn a_step_refused_with_5_leaves_every_figure() {
+    let mut ill_made = 0;
+    for case in CASES.iter() {
+        let Case::Step { section, .. } = case else {
+            continue;
+        };
+        let text = case.expected();
+        let lines: Vec<&str> = text.lines().collect();
+        let is_5 = lines[1] == "value no 5";
+        assert_eq!(is_5, !section.is_well_made());
+        if is_5 {
+            ill_made += 1;
+            let figures = hex(&section.figures().unwrap());
+            assert_eq!(lines[2], format!("value {figures}"));
+            assert_eq!(lines[3], "memory no 5");
+            assert_eq!(lines[4], format!("memory {figures}"));
+        }
+    }
+    assert!(ill_made > 100, "{ill_made}");
+}
+
+#[test]
+fn the_writer_has_2_3_4_and_23_and_success() {
+    let lines = lines_of(|case| matches!(case, Case::Write { .. }));
+    for word in ["append", "front"] {
+        assert_eq!(refusals(&lines, word), [2, 3, 4, 23].into());
+        assert!(lines
+            .iter()
+            .any(|line| line.starts_with(&format!("{word} filled "))));
+    }
+    for case in CASES.iter() {
+        let Case::Write {
+            entry,
+            fill,
+            buffer,
+        } = case
+        else {
+            continue;
+        };
+        // What was there keeps its value, but where the entry now stands.
+        let text = case.expected();
+        let appended = text
+            .lines()
+            .nth(2)
+            .unwrap()
+            .strip_prefix("buffer ")
+            .unwrap();
+        let kept = hex(buffer);
+        match text.lines().nth(1).unwrap().strip_prefix("append filled ") {
+            Some(end) => {
+                let end: usize = end.parse().unwrap();
+                let fill = usize::from(*fill);
+                assert_eq!(end - fill, second::entry_length(entry.map));
+                assert_eq!(appended[..2 * fill], kept[..2 * fill]);
+                assert_eq!(appended[2 * end..], kept[2 * end..]);
+            }
+            None => assert_eq!(appended, kept),
+        }
+    }
+}
+
+#[test]
+fn the_positions_have_every_outcome() {
+    let lines = lines_of(|case| matches!(case, Case::Read { .. }));
+    let mut outcomes = BTreeSet::new();
+    for line in lines.iter().filter(|line| line.starts_with("at ")) {
+        let words: Vec<&str> = line.split(' ').collect();
+        outcomes.insert(match words[2] {
+            "no" => words[2..4].join(" "),
+            word => word.to_owned(),
+        });
+    }
+    let expected = ["end", "entry", "no 1", "no 2", "no 3", "no 4"];
+    assert_eq!(outcomes, expected.map(str::to_owned).into());
+    for case in CASES.iter() {
+        if let Case::Read { position, log } = case {
+            if usize::from(*position) > log.len() {
+                let line = format!("at {position} no 1 next {position}\n");
+                assert!(case.expected().ends_with(&line));
+            }
+        }
+    }
+}
+
+#[test]
+fn the_expected_output_keeps_its_size() {
+    let expected = expected(&CASES);
+    assert!(expected.len() < 700_000, "{}", expected.len());
+    assert!(expected.ends_with('\n'));
+    let starts = ["log ", "step ", "write ", "read "];
+    let started = expected
+        .lines()
+        .filter(|line| starts.iter().any(|start| line.starts_with(start)));
+    assert_eq!(started.count(), CASES.len());
+}
+
+fn run_cases(arguments: &[&str]) -> Output {
+    Command::new(env!("CARGO_BIN_EXE_cases"))
+        .args(arguments)
+        .output()
+        .expect("the program runs")
+}
+
+#[test]
+fn the_program_writes_both_files() {
+    let output = run_cases(&["input"]);
+    assert!(output.status.success());
+    assert_eq!(output.stdout, input(&CASES));
+    let output = run_cases(&["expected"]);
+    assert!(output.status.success());
+    assert_eq!(output.stdout, expected(&CASES).into_bytes());
+    assert_eq!(output.stderr, b"");
+}
+
+#[test]
+fn a_bad_call_gives_one_line_of_usage() {
+    let bad_calls: [&[&str]; 4] = [&[], &["output"], &["input", "expected"], &["Input"]];
+    for arguments in bad_calls {
+        let output = run_cases(arguments);
+        assert_eq!(output.status.code(), Some(2), "{arguments:?}");
+        assert_eq!(output.stdout, b"");
+        assert_eq!(output.stderr, b"usage: cases input|expected\n");
+    }
+}

@@ -1,0 +1,182 @@
+//! The 248 figures of a section: each in its place, and back again.
+
+use second::figures::{digest, Figures, FIGURES_LENGTH};
+use second::generator::{any_section, Generator, Options};
+use second::random::Random;
+use second::{Desk, Kind, Section, Vehicle};
+
+/// Where the figures behind the 24 places start.
+const BEHIND_THE_PLACES: usize = 24 * 9;
+
+/// A section with another number in every figure of its first place, its last
+/// place and its desks.
+fn numbered() -> Section {
+    let mut section = Section {
+        present: 0x12,
+        in_force: true,
+        refused: 0x1314_1516,
+        ..Section::fresh()
+    };
+    section.places[0] = Vehicle {
+        left_on: Some(Kind::Train),
+        asked: 0x21,
+        granted: 0x22,
+        sender: 0x23,
+        form: 0x2425,
+        heading: 0x26,
+        met: true,
+        class: 0x27,
+    };
+    section.places[23] = Vehicle {
+        left_on: Some(Kind::Open),
+        asked: 0x31,
+        sender: 0x32,
+        form: 0x3334,
+        heading: 0x35,
+        class: 0x36,
+        ..Vehicle::default()
+    };
+    section.desks = [
+        Desk {
+            clock: 0x4142,
+            last_form: 0x4344,
+            sent: 0x45,
+            interval: Some(0x4647),
+            out: true,
+            guest: 0x48,
+            asked: 0x49,
+            holds: 0x4A,
+            owes: 0x4B,
+        },
+        Desk {
+            clock: 0x5152,
+            last_form: 0x5354,
+            sent: 0x55,
+            interval: None,
+            out: false,
+            guest: 0x56,
+            asked: 0x57,
+            holds: 0x58,
+            owes: 0x59,
+        },
+    ];
+    section
+}
+
+#[track_caller]
+fn round_trip(section: &Section) -> Figures {
+    let figures = section.figures().expect("there is room");
+    assert_eq!(Section::from_figures(&figures).as_ref(), Some(section));
+    figures
+}
+
+#[test]
+fn every_figure_stands_in_its_place() {
+    let figures = round_trip(&numbered());
+    let mut expected = vec![5, 0x21, 0x22, 0x23, 0x24, 0x25, 0x26, 1, 0x27];
+    expected.extend([0; 22 * 9]);
+    expected.extend([2, 0x31, 0, 0x32, 0x33, 0x34, 0x35, 0, 0x36]);
+    expected.extend([0x12, 1, 0x13, 0x14, 0x15, 0x16]);
+    expected.extend([0x41, 0x42, 0x43, 0x44, 0x45, 1, 0x46, 0x47, 1]);
+    expected.extend([0x48, 0x49, 0x4A, 0x4B]);
+    expected.extend([0x51, 0x52, 0x53, 0x54, 0x55, 0, 0, 0, 0]);
+    expected.extend([0x56, 0x57, 0x58, 0x59]);
+    assert_eq!(figures.to_vec(), expected);
+}
+
+#[test]
+fn an_interval_from_minute_0_is_told_from_none() {
+    let mut section = Section::fresh();
+    section.desks[1].interval = Some(0);
+    let figures = round_trip(&section);
+    assert_eq!(figures[BEHIND_THE_PLACES + 6 + 13 + 5], 1);
+}
+
+#[test]
+fn any_section_and_what_a_step_makes_of_it() {
+    let mut random = Random::new(3);
+    for _ in 0..1_000 {
+        let section = any_section(&mut random);
+        let before = round_trip(&section);
+        let mut generator = Generator::at(section, random.word(), Options::default());
+        generator.next_step();
+        // A step is accepted or counted, unless the count stands at its end.
+        let after = round_trip(generator.section());
+        if generator.section().refused != u32::MAX {
+            assert_ne!(digest(&before), digest(&after));
+        }
+    }
+}
+
+/// Each figure of the bytes set to every value: no section has it, or the
+/// section that has it gives it back.
+#[test]
+fn every_value_of_every_figure_comes_back_or_is_no_section() {
+    for start in [Section::fresh(), numbered()] {
+        let figures = start.figures().unwrap();
+        for place in 0..FIGURES_LENGTH {
+            for value in 0..=u8::MAX {
+                let mut altered = figures;
+                altered[place] = value;
+                if let Some(section) = Section::from_figures(&altered) {
+                    assert_eq!(section.figures(), Some(altered));
+                }
+            }
+        }
+    }
+}
+
+#[test]
+fn what_has_no_room_has_no_figures() {
+    let none = |change: fn(&mut Section)| {
+        let mut section = numbered();
+        change(&mut section);
+        assert_eq!(section.figures(), None);
+    };
+    none(|section| section.present = 256);
+    for change in [
+        (|section| section.places[0].left_on = Some(Kind::Begin)) as fn(&mut Section),
+        |section| section.places[0].left_on = Some(Kind::Receive),
+        |section| section.places[0].left_on = Some(Kind::Meet),
+        |section| section.places[0].left_on = Some(Kind::Resume),
+        |section| section.places[0].left_on = Some(Kind::Through),
+        |section| section.places[0].left_on = None,
+        |section| section.places[23].granted = 1,
+        |section| section.places[23].left_on = Some(Kind::Through),
+    ] {
+        none(change);
+    }
+    none(|section| {
+        section.places[5] = Vehicle {
+            left_on: Some(Kind::Open),
+            ..Vehicle::default()
+        };
+    });
+}
+
+#[test]
+fn bytes_that_are_no_section() {
+    let figures = numbered().figures().unwrap();
+    let altered = |place: usize, value: u8| {
+        let mut figures = figures;
+        figures[place] = value;
+        Section::from_figures(&figures)
+    };
+    // Kinds: none of the four; THROUGH and none, which have no messages.
+    for kind in [0, 1, 2, 3, 6, 7, 8, 9, 255] {
+        assert_eq!(altered(0, kind), None, "kind {kind}");
+    }
+    assert!(altered(0, 4).is_some());
+    // Line clears on the OPEN.
+    assert_eq!(altered(23 * 9 + 2, 1), None);
+    // An OPEN with 0 in every other figure.
+    assert_eq!(altered(9, 2), None);
+    // Met, in force, interval running, out: neither 0 nor 1.
+    for place in [7, 217, 222 + 5, 222 + 8, 235 + 5, 235 + 8] {
+        assert_eq!(altered(place, 2), None, "figure {place}");
+        assert_eq!(altered(place, 255), None, "figure {place}");
+    }
+    // A minute of an interval that does not run.
+    assert_eq!(altered(235 + 7, 1), None);
+    assert_eq!(altered(222 + 5, 0), None);
+}

@@ -128,7 +128,10 @@ pub fn plan(act: Act, at: Station, force: bool, d: Desk, time: u16, nearest: Veh
             let movement = Movement::Open { asked: asked };
             open_plan(force, d, time, view, true, movement, class, 7)
         }
-        Act::Passes { view } => open_plan(force, d, time, view, d.out, Movement::Through, 1, 1),
+        Act::Passes { view } => {
+            let class = Vehicle::LIGHT_ENGINE;
+            open_plan(force, d, time, view, d.out, Movement::Through, class, 1)
+        }
         Act::Returns { asked, granted } => return_plan(at, force, d, time, asked, granted),
         Act::Runs {
             view,

@@ -26,7 +26,7 @@ pub fn line_words(s: Section) -> LineWords
 {
     let places = s.vehicles;
     let mut line = [0; LINE_LENGTH];
-    let mut i: usize = 0;
+    let mut i = 0;
     while i < Section::PLACES {
         line[i] = vehicle_word(places[i]);
         i += 1;

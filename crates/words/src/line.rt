@@ -62,7 +62,7 @@ fn put_first(line: &mut LineWords, word: u64)
 {
     let _ = &line[..];
     let mut next = word;
-    let mut i: usize = 0;
+    let mut i = 0;
     while i < Section::PLACES {
         let here = line[i];
         line[i] = next;

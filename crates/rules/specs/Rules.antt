@@ -9,7 +9,7 @@ use Rattle.working.specs.declared.Movement.{Movement}
 use Rattle.working.specs.declared.Plan.the-variants.{Depart}
 use Rattle.working.specs.declared.Plan.{Plan}
 use Rattle.working.specs.declared.View.{View}
-use mathlib.Core.Bool.{Bool}
+use mathlib.Core.Bool.{Bool, true}
 
 -- one more vehicle may be sent, and one more form number issued
 pub record Room (d : Desk) : Type 0 where
@@ -28,7 +28,7 @@ receivedDesk d time sent = received d time sent (d .out) (d .guest) (d .asked) (
 abbrev pub clearsDesk : Desk → ℕ → ℕ → Desk
 clearsDesk d asked granted = desk (d .clock) (d .last) (d .sent) (d .interval) (d .out) (d .guest) (ifAny asked (d .asked)) granted (d .owes)
 
--- an OPEN or a THROUGH, with what tells the two apart
-abbrev pub openPlan : Bool → Desk → ℕ → View → Bool → Movement → ℕ → ℕ → Plan
-openPlan force d time view out movement class forms =
-    unlessRefused (firstOf (openTests force d time)) (Depart (departedDesk d time out) movement class forms (openSpeed view))
+-- an OPEN or a THROUGH, in force, with what tells the two apart
+abbrev pub openPlan : Desk → ℕ → View → Bool → Movement → ℕ → ℕ → Plan
+openPlan d time view out movement class forms =
+    unlessRefused (firstOf (openTests true d time)) (Depart (departedDesk d time out) movement class forms (openSpeed view))

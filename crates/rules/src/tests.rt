@@ -1,6 +1,9 @@
-// What each kind is refused for. A function puts document 01's tests in rising order, and the first that holds is given.
+// What each kind is refused for, in force and not before the desk's clock: `plan` puts every act to 7 and 9 first. A function puts document 01's tests in
+// rising order, and the first that holds is given.
+ghost use Prim.Native.Nat.{_≤_};
 ghost use Rattle.working.specs.Reasons.{departTests, isUnder, mayEnter, openTests, receiveTests, returnTests, trainTests};
 ghost use Rattle.working.specs.Refusals.{firstOf};
+ghost use mathlib.Core.Bool.{true};
 ghost use mathlib.Core.Path.{_≡_};
 use section::is_named;
 use section::is_opener;
@@ -40,15 +43,10 @@ fn departure_verdict(d: Desk, time: u16) -> Verdict
 }
 
 // OPEN and THROUGH.
-pub(crate) fn open_verdict(force: bool, d: Desk, time: u16) -> Verdict
-    ensures { λ r. ⌜ r ≡ firstOf (openTests force d time) ⌝ }
+pub(crate) fn open_verdict(d: Desk, time: u16) -> Verdict
+    requires { ⌜ d .clock ≤ time ⌝ }
+    ensures { λ r. ⌜ r ≡ firstOf (openTests true d time) ⌝ }
 {
-    if !force {
-        return Verdict::Refused(Refusal::NotInForce);
-    }
-    if time < d.clock {
-        return Verdict::Refused(Refusal::BeforeClock);
-    }
     if d.out {
         return Verdict::Refused(Refusal::OpenerAway);
     }
@@ -64,15 +62,10 @@ pub(crate) fn open_verdict(force: bool, d: Desk, time: u16) -> Verdict
     departure_verdict(d, time)
 }
 
-pub(crate) fn return_verdict(force: bool, d: Desk, time: u16, granted: u8) -> Verdict
-    ensures { λ r. ⌜ r ≡ firstOf (returnTests force d time granted) ⌝ }
+pub(crate) fn return_verdict(d: Desk, time: u16, granted: u8) -> Verdict
+    requires { ⌜ d .clock ≤ time ⌝ }
+    ensures { λ r. ⌜ r ≡ firstOf (returnTests true d time granted) ⌝ }
 {
-    if !force {
-        return Verdict::Refused(Refusal::NotInForce);
-    }
-    if time < d.clock {
-        return Verdict::Refused(Refusal::BeforeClock);
-    }
     if 0 < d.holds {
         return Verdict::Refused(Refusal::HoldsLineClear);
     }
@@ -85,22 +78,14 @@ pub(crate) fn return_verdict(force: bool, d: Desk, time: u16, granted: u8) -> Ve
     departure_verdict(d, time)
 }
 
-pub(crate) fn train_verdict(force: bool, d: Desk, time: u16, granted: u8) -> Verdict
-    ensures { λ r. ⌜ r ≡ firstOf (trainTests force d time granted) ⌝ }
+pub(crate) fn train_verdict(d: Desk, time: u16, granted: u8) -> Verdict
+    requires { ⌜ d .clock ≤ time ⌝ }
+    ensures { λ r. ⌜ r ≡ firstOf (trainTests true d time granted) ⌝ }
 {
-    let early = time < d.clock;
-    let uncleared = d.holds == 0;
-    let beyond = (d.asked < granted) | ((0 < granted) & (1 < d.holds));
-    if !force {
-        return Verdict::Refused(Refusal::NotInForce);
-    }
-    if early {
-        return Verdict::Refused(Refusal::BeforeClock);
-    }
-    if uncleared {
+    if d.holds == 0 {
         return Verdict::Refused(Refusal::NoLineClear);
     }
-    if beyond {
+    if (d.asked < granted) | ((0 < granted) & (1 < d.holds)) {
         return Verdict::Refused(Refusal::GrantNotAllowed);
     }
     departure_verdict(d, time)
@@ -122,21 +107,15 @@ fn may_enter(at: Station, v: Vehicle) -> bool
 
 pub(crate) fn receive_verdict(
     at: Station,
-    force: bool,
     d: Desk,
     time: u16,
     sender: Station,
     form: u16,
     nearest: Vehicle,
 ) -> Verdict
-    ensures { λ r. ⌜ r ≡ firstOf (receiveTests at force d time sender form nearest) ⌝ }
+    requires { ⌜ d .clock ≤ time ⌝ }
+    ensures { λ r. ⌜ r ≡ firstOf (receiveTests at true d time sender form nearest) ⌝ }
 {
-    if !force {
-        return Verdict::Refused(Refusal::NotInForce);
-    }
-    if time < d.clock {
-        return Verdict::Refused(Refusal::BeforeClock);
-    }
     if !is_named(sender, form, nearest) {
         return Verdict::Refused(Refusal::NotNearest);
     }

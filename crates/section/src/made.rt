@@ -65,7 +65,7 @@ fn seen(v: Vehicle, last_a: u16, last_b: u16, s: Survey) -> Survey
 }
 
 // The one pass over the vehicles present.
-fn survey_of(places: [Vehicle; 24], len: usize, last_a: u16, last_b: u16) -> Survey
+fn survey_of(places: [Vehicle; Section::PLACES], len: usize, last_a: u16, last_b: u16) -> Survey
     requires { ⌜ len ≤ 24 ⌝ }
     ensures { λ r. ⌜ r ≡ surveyOf «last_a» «last_b» (take len places) ⌝ }
 {
@@ -89,7 +89,7 @@ fn survey_of(places: [Vehicle; 24], len: usize, last_a: u16, last_b: u16) -> Sur
 }
 
 // Whether the places from `from` on are unused.
-fn blank_from(places: [Vehicle; 24], from: usize) -> bool
+fn blank_from(places: [Vehicle; Section::PLACES], from: usize) -> bool
     requires { ⌜ from ≤ 24 ⌝ }
     ensures { λ r. ⌜ r ≡ allBlank (drop from places) ⌝ }
 {
@@ -103,7 +103,7 @@ fn blank_from(places: [Vehicle; 24], from: usize) -> bool
 }
 
 // Whether `v` differs in sender or form number from each vehicle present from place `from` on.
-fn differs_from(places: [Vehicle; 24], from: usize, len: usize, v: Vehicle) -> bool
+fn differs_from(places: [Vehicle; Section::PLACES], from: usize, len: usize, v: Vehicle) -> bool
     requires { ⌜ (from ≤ len) × (len ≤ 24) ⌝ }
     ensures { λ r. ⌜ r ≡ differsFrom v (drop from (take len places)) ⌝ }
 {
@@ -117,7 +117,7 @@ fn differs_from(places: [Vehicle; 24], from: usize, len: usize, v: Vehicle) -> b
 }
 
 // Whether form numbers differ among one sender's vehicles.
-fn forms_differ(places: [Vehicle; 24], len: usize) -> bool
+fn forms_differ(places: [Vehicle; Section::PLACES], len: usize) -> bool
     requires { ⌜ len ≤ 24 ⌝ }
     ensures { λ r. ⌜ r ≡ differ (take len places) ⌝ }
 {
@@ -146,7 +146,11 @@ fn desk_made(d: Desk, t: Tally) -> bool
 {
     let interval = d.interval;
     let sent = (d.last <= Desk::LAST_FORM) & (d.sent <= Desk::MOST_SENT) & (t.count <= d.sent);
-    let clears = (d.guest <= 5) & (d.asked <= 8) & (d.holds <= 8) & (d.owes <= 8);
+    let most = Desk::MOST_TRAINS;
+    let clears = (d.guest <= Vehicle::LAST_CLASS)
+        & (d.asked <= most)
+        & (d.holds <= most)
+        & (d.owes <= most);
     sent & clears & is_not_later(interval, d.clock) & t.numbered
 }
 

@@ -4,6 +4,7 @@ ghost use Rattle.working.specs.Reasons.{isNamed};
 ghost use Rattle.working.specs.WellMade.{isBlank, isBlankMovement, isOpener, same, shaped};
 ghost use mathlib.Core.Path.{_≡_};
 use crate::stations::station_number;
+use working::Desk;
 use working::Movement;
 use working::Station;
 use working::Vehicle;
@@ -44,14 +45,13 @@ pub(crate) fn is_same(v: Vehicle, w: Vehicle) -> bool
 pub(crate) fn movement_made(movement: Movement, class: u8) -> bool
     ensures { λ r. ⌜ r ≡ movementMade movement class ⌝ }
 {
+    let classed = (1 <= class) & (class <= Vehicle::LAST_CLASS);
+    let most = Desk::MOST_TRAINS;
     match movement {
-        Movement::Open { asked } => (1 <= class) & (class <= 5) & (1 <= asked) & (asked <= 8),
-        Movement::Through => class == 1,
-        Movement::Return { asked, granted } => (1 <= class)
-            & (class <= 5)
-            & (asked <= 8)
-            & (granted <= 8),
-        Movement::Train { asked, granted } => (class == 0) & (asked <= 8) & (granted <= 8),
+        Movement::Open { asked } => classed & (1 <= asked) & (asked <= most),
+        Movement::Through => class == Vehicle::LIGHT_ENGINE,
+        Movement::Return { asked, granted } => classed & (asked <= most) & (granted <= most),
+        Movement::Train { asked, granted } => (class == 0) & (asked <= most) & (granted <= most),
     }
 }
 

@@ -3,11 +3,16 @@ ghost use Prim.Native.Nat.{ℕ};
 ghost use Rattle.words.specs.Words.{sectionIn, vehiclesIn};
 ghost use mathlib.Core.List.{List};
 ghost use mathlib.Core.Path.{_≡_};
+use crate::figures::COUNTS;
+use crate::figures::FIGURES_LENGTH;
 use crate::figures::FORCE;
+use crate::figures::FigureWords;
 use crate::figures::LEN;
 use crate::figures::REFUSED;
 use crate::figures::desk;
 use crate::figures::put_desk;
+use crate::line::LINE_LENGTH;
+use crate::line::LineWords;
 use crate::vehicles::vehicle_in;
 use crate::vehicles::vehicle_word;
 use crate::vehicles::word_if;
@@ -16,12 +21,12 @@ use working::Station;
 use working::Vehicle;
 
 // The words of a section's line.
-pub fn line_words(s: Section) -> [u64; 24]
+pub fn line_words(s: Section) -> LineWords
     ensures { λ r. ⌜ vehiclesIn r ≡ s .vehicles ⌝ }
 {
     let places = s.vehicles;
-    let mut line = [0; 24];
-    let mut i: usize = 0;
+    let mut line = [0; LINE_LENGTH];
+    let mut i = 0;
     while i < Section::PLACES {
         line[i] = vehicle_word(places[i]);
         i += 1;
@@ -30,12 +35,12 @@ pub fn line_words(s: Section) -> [u64; 24]
 }
 
 // The words of its other figures.
-pub fn figure_words(s: Section) -> [u64; 21]
+pub fn figure_words(s: Section) -> FigureWords
     ensures { λ r. ⌜ ((l : List ℕ) → vehiclesIn l ≡ s .vehicles → sectionIn l r ≡ s) ⌝ }
 {
     let a = s.a;
     let b = s.b;
-    let mut figures = [0; 21];
+    let mut figures = [0; FIGURES_LENGTH];
     figures[LEN] = s.len as u64;
     figures[FORCE] = word_if(s.force);
     figures[REFUSED] = s.refused as u64;
@@ -44,12 +49,12 @@ pub fn figure_words(s: Section) -> [u64; 21]
     figures
 }
 
-// The vehicles that the words of a line stand for. Seen as a slice, the array shows the proof that its words are 24.
-fn vehicles_in(line: &[u64; 24]) -> [Vehicle; 24]
+// The vehicles that the words of a line stand for. Seen as a slice, the array shows the proof how many its words are.
+fn vehicles_in(line: &LineWords) -> [Vehicle; Section::PLACES]
     ensures { λ r. ⌜ r ≡ vehiclesIn (now (line .entry)) ⌝ }
 {
     let _ = &line[..];
-    let mut places = [Vehicle::unused(); 24];
+    let mut places = [Vehicle::unused(); Section::PLACES];
     let mut i = 0;
     while i < Section::PLACES {
         places[i] = vehicle_in(line[i]);
@@ -59,14 +64,14 @@ fn vehicles_in(line: &[u64; 24]) -> [Vehicle; 24]
 }
 
 // The section that the words stand for.
-pub fn section_in(line: &[u64; 24], figures: &[u64; 21]) -> Section
+pub fn section_in(line: &LineWords, figures: &FigureWords) -> Section
     ensures { λ r. ⌜ r ≡ sectionIn (now (line .entry)) (now (figures .entry)) ⌝ }
 {
     Section {
         vehicles: vehicles_in(line),
         len: figures[LEN] as usize,
         force: figures[FORCE] == 1,
-        refused: (figures[REFUSED] % 4294967296) as u32,
+        refused: (figures[REFUSED] % COUNTS) as u32,
         a: desk(figures, Station::A),
         b: desk(figures, Station::B),
     }

@@ -1,4 +1,4 @@
-// The vehicles present, the first `len` of the 24 places, in lent words: one enters or leaves at a station's end, and two meet. Behind them every place is
+// The vehicles present, the first `len` of the section's places, in lent words: one enters or leaves at a station's end, and two meet. Behind them every place is
 // left unused, whatever stood there, so that each function is equal to its definition on any section.
 // `let _ = &line[..];` does nothing: seen as a slice, the array shows the proof how many its words are.
 ghost use Prim.Native.Nat.{_-_, _≤_, min};
@@ -11,6 +11,7 @@ ghost use mathlib.Core.Bool.{cond};
 ghost use mathlib.Core.List.{_∷_};
 ghost use mathlib.Core.Path.{_≡_};
 use crate::figures::FORCE;
+use crate::figures::FigureWords;
 use crate::figures::LEN;
 use crate::figures::put_desk;
 use crate::vehicles::vehicle_in;
@@ -24,8 +25,13 @@ use working::Section;
 use working::Station;
 use working::Vehicle;
 
+// A word for each place.
+pub const LINE_LENGTH: usize = Section::PLACES;
+
+pub type LineWords = [u64; LINE_LENGTH];
+
 // As many vehicles as there are places for.
-fn present_in(line: &[u64; 24], figures: &[u64; 21]) -> usize
+fn present_in(line: &LineWords, figures: &FigureWords) -> usize
     ensures { λ r. ⌜ (r ≡ min (getD (now (figures .entry)) 0 0) 24) × (length (now (line .entry)) ≡ 24) × (length (now (figures .entry)) ≡ 21) ⌝ }
 {
     let _ = &line[..];
@@ -39,7 +45,7 @@ fn present_in(line: &[u64; 24], figures: &[u64; 21]) -> usize
 }
 
 // Every place from `from` on is made unused.
-fn blank(line: &mut [u64; 24], from: usize)
+fn blank(line: &mut LineWords, from: usize)
     ensures { λ _. ⌜ vehiclesIn (now (line .exit)) ≡ padTo 24 (take from (vehiclesIn (now (line .entry)))) ⌝ }
 {
     let _ = &line[..];
@@ -51,12 +57,12 @@ fn blank(line: &mut [u64; 24], from: usize)
 }
 
 // A vehicle stands nearest A, and every other one place on towards B.
-fn put_first(line: &mut [u64; 24], word: u64)
+fn put_first(line: &mut LineWords, word: u64)
     ensures { λ _. ⌜ vehiclesIn (now (line .exit)) ≡ padTo 24 (vehicleIn word ∷ vehiclesIn (now (line .entry))) ⌝ }
 {
     let _ = &line[..];
     let mut next = word;
-    let mut i: usize = 0;
+    let mut i = 0;
     while i < Section::PLACES {
         let here = line[i];
         line[i] = next;
@@ -66,7 +72,7 @@ fn put_first(line: &mut [u64; 24], word: u64)
 }
 
 // The vehicle nearest A is gone, and every other one place on towards A.
-fn drop_first(line: &mut [u64; 24])
+fn drop_first(line: &mut LineWords)
     ensures { λ _. ⌜ vehiclesIn (now (line .exit)) ≡ padTo 24 (drop 1 (vehiclesIn (now (line .entry)))) ⌝ }
 {
     let _ = &line[..];
@@ -81,7 +87,7 @@ fn drop_first(line: &mut [u64; 24])
 }
 
 // A vehicle stands at place `i`; past the end nothing is stored.
-fn put_at(line: &mut [u64; 24], i: usize, word: u64)
+fn put_at(line: &mut LineWords, i: usize, word: u64)
     ensures { λ _. ⌜ vehiclesIn (now (line .exit)) ≡ set (vehiclesIn (now (line .entry))) i (vehicleIn word) ⌝ }
 {
     let _ = &line[..];
@@ -91,7 +97,7 @@ fn put_at(line: &mut [u64; 24], i: usize, word: u64)
 }
 
 // One more vehicle, at a station's end.
-pub fn insert(line: &mut [u64; 24], figures: &mut [u64; 21], at: Station, v: Vehicle)
+pub fn insert(line: &mut LineWords, figures: &mut FigureWords, at: Station, v: Vehicle)
     ensures { λ _. ⌜ (let s = sectionIn (now (line .entry)) (now (figures .entry)) in sectionIn (now (line .exit)) (now (figures .exit)) ≡ withLine s (insertAt at v (lineOf s))) ⌝ }
 {
     let present = present_in(line, figures);
@@ -112,7 +118,7 @@ fn fewer(n: usize) -> usize
 }
 
 // The vehicle at a station's end is gone.
-pub fn remove(line: &mut [u64; 24], figures: &mut [u64; 21], at: Station)
+pub fn remove(line: &mut LineWords, figures: &mut FigureWords, at: Station)
     ensures { λ _. ⌜ (let s = sectionIn (now (line .entry)) (now (figures .entry)) in sectionIn (now (line .exit)) (now (figures .exit)) ≡ withLine s (removeAt at (lineOf s))) ⌝ }
 {
     let present = present_in(line, figures);
@@ -128,7 +134,7 @@ pub fn remove(line: &mut [u64; 24], figures: &mut [u64; 21], at: Station)
 }
 
 // The vehicle nearest a station, or the unused place where there is none.
-pub fn nearest(line: &[u64; 24], figures: &[u64; 21], at: Station) -> Vehicle
+pub fn nearest(line: &LineWords, figures: &FigureWords, at: Station) -> Vehicle
     ensures { λ r. ⌜ r ≡ nearestAt at (lineOf (sectionIn (now (line .entry)) (now (figures .entry)))) ⌝ }
 {
     let present = present_in(line, figures);
@@ -149,7 +155,7 @@ fn place_if(found: bool, i: usize, later: usize) -> usize
 }
 
 // The place of the vehicle named, nearest A first, or the length of the line where it is not present.
-pub fn find(line: &[u64; 24], figures: &[u64; 21], sender: Station, form: u16) -> usize
+pub fn find(line: &LineWords, figures: &FigureWords, sender: Station, form: u16) -> usize
     ensures { λ r. ⌜ r ≡ findOf sender form (lineOf (sectionIn (now (line .entry)) (now (figures .entry)))) ⌝ }
 {
     let present = present_in(line, figures);
@@ -163,7 +169,7 @@ pub fn find(line: &[u64; 24], figures: &[u64; 21], sender: Station, form: u16) -
 }
 
 // Whether the vehicle at place `i` and its neighbour towards B may meet: both present, OPEN or THROUGH, and heading towards one another.
-pub fn may_meet(line: &[u64; 24], figures: &[u64; 21], i: usize) -> bool
+pub fn may_meet(line: &LineWords, figures: &FigureWords, i: usize) -> bool
     ensures { λ r. ⌜ r ≡ mayMeet (lineOf (sectionIn (now (line .entry)) (now (figures .entry)))) i ⌝ }
 {
     let present = present_in(line, figures);
@@ -192,7 +198,7 @@ fn turned(v: Vehicle, to: Station) -> Vehicle
 }
 
 // The vehicle at place `i`, where it is one of the first `len`, is turned.
-fn turn(line: &mut [u64; 24], len: usize, i: usize, to: Station)
+fn turn(line: &mut LineWords, len: usize, i: usize, to: Station)
     requires { ⌜ len ≤ 24 ⌝ }
     ensures { λ _. ⌜ vehiclesIn (now (line .exit)) ≡ padTo 24 (turnAt to i (take len (vehiclesIn (now (line .entry))))) ⌝ }
 {
@@ -205,7 +211,7 @@ fn turn(line: &mut [u64; 24], len: usize, i: usize, to: Station)
 }
 
 // The vehicle at place `i` and its neighbour towards B have met, and both head to a station.
-pub fn meet(line: &mut [u64; 24], figures: &mut [u64; 21], to: Station, i: usize)
+pub fn meet(line: &mut LineWords, figures: &mut FigureWords, to: Station, i: usize)
     ensures { λ _. ⌜ (let s = sectionIn (now (line .entry)) (now (figures .entry)) in sectionIn (now (line .exit)) (now (figures .exit)) ≡ withLine s (metAt to i (lineOf s))) ⌝ }
 {
     let present = present_in(line, figures);
@@ -219,7 +225,7 @@ pub fn meet(line: &mut [u64; 24], figures: &mut [u64; 21], to: Station, i: usize
 }
 
 // No vehicle is present, and both desks are as fresh; in force or not.
-pub fn empty(line: &mut [u64; 24], figures: &mut [u64; 21], force: bool)
+pub fn empty(line: &mut LineWords, figures: &mut FigureWords, force: bool)
     ensures { λ _. ⌜ sectionIn (now (line .exit)) (now (figures .exit)) ≡ emptied force (sectionIn (now (line .entry)) (now (figures .entry)) .refused) ⌝ }
 {
     let _ = &figures[..];

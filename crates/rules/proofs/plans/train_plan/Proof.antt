@@ -5,6 +5,7 @@ use Rattle.rules.proofs.plans.train_plan.Statement.{statement}
 use Rattle.rules.proofs.plans.train_plan.Tie as tie
 use Rattle.working.specs.Reasons.{trainTests}
 use borrow.Author.Needs.{needs}
+use mathlib.Core.Bool.{true}
 use mathlib.Core.Path.{_∙_, refl, sym}
 
 train-verdict-requires : tie.Need-train-verdict-requires
@@ -19,7 +20,7 @@ enum-told c = search needs
 train-desk-requires : tie.Need-train-desk-requires
 train-desk-requires c κs =
     let a = c .before .before .before .before .args in
-    room 4 (trainTests (a .force) (a .d) (a .time) (a .granted)) (a .d) (a .time) refl (sym (c .before .before .train-verdict .ensures) ∙ c .enum-told .given .1)
+    room 4 (trainTests true (a .d) (a .time) (a .granted)) (a .d) (a .time) refl (sym (c .before .before .before .train-verdict .ensures) ∙ c .before .enum-told .given .1)
 
 clear-forms-requires : tie.Need-clear-forms-requires
 clear-forms-requires c κs = search needs
@@ -32,7 +33,7 @@ returns c = λ v. rw (← (c .before .before .before .train-verdict .ensures), c
 
 returns-2 : tie.Need-returns-2
 returns-2 c =
-    let told = c .before .before .before in
+    let told = c .before .before .before .before in
     λ v. rw (c .train-speed .ensures, c .before .clear-forms .ensures, c .before .before .train-desk .ensures, ← (told .before .before .train-verdict .ensures), told .enum-told .given .1)
 
 pub train-plan-spec : {M : Type 1} → statement M

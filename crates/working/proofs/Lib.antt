@@ -11,8 +11,10 @@ pub mod Judged
 pub mod Kept
 pub mod Line
 pub mod Lists
+pub mod Literals
 pub mod Logs
 pub mod Made
+pub mod MadeTable
 pub mod Meeting
 pub mod Opposed
 pub mod Plans

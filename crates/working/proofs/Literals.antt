@@ -6,14 +6,17 @@ use Rattle.working.specs.Sections.{padTo}
 use Rattle.working.specs.declared.Answer.the-variants.{Accepted}
 use Rattle.working.specs.declared.Answer.{Answer}
 use Rattle.working.specs.declared.Desk.{Desk}
+use Rattle.working.specs.declared.Interval.the-variants.{Since, Stopped}
 use Rattle.working.specs.declared.Interval.{Interval}
+use Rattle.working.specs.declared.Movement.the-variants.{Open, Return, Through, Train}
 use Rattle.working.specs.declared.Movement.{Movement}
 use Rattle.working.specs.declared.Section.{Section}
 use Rattle.working.specs.declared.Speed.the-variants.{NoSpeed}
 use Rattle.working.specs.declared.Vehicle.{Vehicle}
+use lib.Dec.{eqb}
 use lib.ListN.{length}
-use mathlib.Core.Bool.{Bool, true}
-use mathlib.Core.List.{List, [], _∷_}
+use mathlib.Core.Bool.{Bool, _&&_, false, true}
+use mathlib.Core.List.{List, [], _++_, _∷_}
 
 -- ---- entries as bytes: station, the time's low byte, and the rest in the fields' order
 
@@ -98,3 +101,39 @@ withOwes n d = figures (d .clock) (d .last) (d .sent) (d .interval) (d .out) (d 
 
 abbrev pub working : ℕ → List Vehicle → Desk → Desk → Section
 working refused line a b = record { vehicles = padTo 24 line; len = length line; force = true; refused = refused; a = a; b = b }
+
+-- ---- every figure of a section in one row of numbers, so that two sections can be compared by computation
+
+abbrev bit : Bool → ℕ
+bit false = 0
+bit true = 1
+
+-- the kind's number in document 01, asked and granted
+abbrev movementFigures : Movement → List ℕ
+movementFigures (Open asked) = 2 ∷ asked ∷ 0 ∷ []
+movementFigures Through = 3 ∷ 0 ∷ 0 ∷ []
+movementFigures (Return asked granted) = 4 ∷ asked ∷ granted ∷ []
+movementFigures (Train asked granted) = 5 ∷ asked ∷ granted ∷ []
+
+abbrev lineFigures : List Vehicle → List ℕ
+lineFigures [] = []
+lineFigures (v ∷ l) = movementFigures (v .movement) ++ v .sender ∷ v .form ∷ v .heading ∷ bit (v .met) ∷ v .class ∷ lineFigures l
+
+abbrev intervalFigures : Interval → List ℕ
+intervalFigures Stopped = 0 ∷ 0 ∷ []
+intervalFigures (Since minute) = 1 ∷ minute ∷ []
+
+abbrev deskFigures : Desk → List ℕ
+deskFigures d = d .clock ∷ d .last ∷ d .sent ∷ bit (d .out) ∷ d .guest ∷ d .asked ∷ d .holds ∷ d .owes ∷ intervalFigures (d .interval)
+
+abbrev pub figuresOf : Section → List ℕ
+figuresOf s = s .len ∷ bit (s .force) ∷ s .refused ∷ deskFigures (s .a) ++ deskFigures (s .b) ++ lineFigures (s .vehicles)
+
+abbrev sameFigures : List ℕ → List ℕ → Bool
+sameFigures [] [] = true
+sameFigures [] (m ∷ ms) = false
+sameFigures (n ∷ ns) [] = false
+sameFigures (n ∷ ns) (m ∷ ms) = eqb n m && sameFigures ns ms
+
+abbrev pub sameSection : Section → Section → Bool
+sameSection s t = sameFigures (figuresOf s) (figuresOf t)

@@ -1,5 +1,6 @@
 pub mod Bytes
 pub mod Changes
+pub mod Consequences
 pub mod Corollaries
 pub mod Demand3
 pub mod Edges

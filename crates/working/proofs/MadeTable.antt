@@ -23,7 +23,7 @@ use Rattle.working.specs.declared.Station.{Station}
 use Rattle.working.specs.declared.Vehicle.{Vehicle}
 use lib.Dec.{eqb}
 use lib.ListN.{length, set}
-use mathlib.Core.Bool.{Bool, cond, false, true}
+use mathlib.Core.Bool.{cond, false, true}
 use mathlib.Core.List.{List, [], _++_, _∷_}
 use mathlib.Core.Path.{_≡_, refl}
 

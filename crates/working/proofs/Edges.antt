@@ -1,21 +1,26 @@
 -- The edges of document 01, (a) to (l), as one table, and that every row holds, by computation.
--- A row has the section that the entry finds, which is what a list of entries left from fresh, the entry's bytes, and the answer expected.
+-- A row has the section that the entry finds, which is what a list of entries left from fresh, the entry's bytes, the answer expected, and the section that the entry
+-- leaves, every figure of it as document 01 has it.
 -- (f) starts from a named well-made section, `worn`, whose station A has used form 9,998: its list from fresh has some twenty thousand entries, a THROUGH and its
 -- receipt for each number, and is run by the second program's generator, not written out here.
 -- Assumes nothing.
-use Prim.Native.Nat.{ℕ}
-use Rattle.working.specs.Entries.{entryIn, judge, lengthOf, mapFits, rangesHold, readAt}
+use Prim.Native.Nat.{_+_, suc, ℕ}
+use Rattle.working.proofs.Literals.{begin, figures, meet, opens, plain, receive, resume, returns, sameSection, through, train, vehicle, working}
+use Rattle.working.specs.Entries.{entryIn, every, judge, lengthOf, mapFits, rangesHold, readAt}
 use Rattle.working.specs.Events.{decode}
 use Rattle.working.specs.Sections.{fresh, freshDesk, padTo}
 use Rattle.working.specs.Steps.{entered, stepOf}
 use Rattle.working.specs.WellMade.{wellMade}
 use Rattle.working.specs.declared.Answer.the-variants.{Accepted, Refused}
 use Rattle.working.specs.declared.Answer.{Answer}
-use Rattle.working.specs.declared.Interval.the-variants.{Stopped}
+use Rattle.working.specs.declared.Interval.the-variants.{Since, Stopped}
+use Rattle.working.specs.declared.Movement.the-variants.{Open, Return, Through, Train}
 use Rattle.working.specs.declared.Refusal.the-variants.{BeforeClock, EndsInside, FormsUsed, GrantNotAllowed, IntervalRunning, MayNotEnter, NoGuest, NotNearest, OutOfRange, TwelveSent, UnknownKind}
+use Rattle.working.specs.declared.Refusal.{Refusal}
 use Rattle.working.specs.declared.Section.{Section}
-use Rattle.working.specs.declared.Speed.the-variants.{Booked, Kmh, NoSpeed, Walking}
-use mathlib.Core.Bool.{false, true}
+use Rattle.working.specs.declared.Speed.the-variants.{Booked, Kmh, Walking}
+use Rattle.working.specs.declared.Vehicle.{Vehicle}
+use mathlib.Core.Bool.{cond, false, true}
 use mathlib.Core.List.{List, [], _∷_}
 use mathlib.Core.Path.{_≡_, refl}
 
@@ -23,6 +28,7 @@ pub record Edge : Type 0 where
   pub before : Section
   pub bytes : List ℕ
   pub expected : Answer
+  pub leaves : Section
 
 -- the section that a list of entries leaves
 abbrev pub after : Section → List (List ℕ) → Section
@@ -37,32 +43,11 @@ abbrev expectedOf : List Edge → List Answer
 expectedOf [] = []
 expectedOf (r ∷ rows) = r .expected ∷ expectedOf rows
 
--- ---- entries as bytes: station, the time's low byte, and the rest in the fields' order
-
-abbrev pub begin : List ℕ
-begin = 0x01 ∷ 1 ∷ []
-
-abbrev pub resume : List ℕ
-resume = 0x01 ∷ 8 ∷ []
-
-abbrev pub opens : ℕ → ℕ → ℕ → ℕ → List ℕ
-opens station minute view asked = 0x3F ∷ 2 ∷ station ∷ 0 ∷ minute ∷ view ∷ 1 ∷ asked ∷ []
-
--- a THROUGH's minute in two bytes, since twelve of them take more than 255 minutes
-abbrev pub through : ℕ → ℕ → ℕ → List ℕ
-through station high low = 0x1F ∷ 3 ∷ station ∷ high ∷ low ∷ 1 ∷ 1 ∷ []
-
-abbrev pub returns : ℕ → ℕ → ℕ → List ℕ
-returns station minute granted = 0x47 ∷ 4 ∷ station ∷ 0 ∷ minute ∷ granted ∷ []
-
-abbrev pub train : ℕ → ℕ → List ℕ
-train station minute = 0x0F ∷ 5 ∷ station ∷ 0 ∷ minute ∷ 1 ∷ []
-
-abbrev pub receive : ℕ → ℕ → ℕ → ℕ → List ℕ
-receive station minute sender number = 0x87 ∷ 6 ∷ station ∷ 0 ∷ minute ∷ sender ∷ 0 ∷ number ∷ []
-
-abbrev pub meet : ℕ → ℕ → ℕ → List ℕ
-meet station sender number = 0x83 ∷ 7 ∷ station ∷ sender ∷ 0 ∷ number ∷ []
+-- the rows, counted from n, that leave another section than the table has
+abbrev rowsLeavingAnother : ℕ → List Edge → List ℕ
+rowsLeavingAnother n [] = []
+rowsLeavingAnother n (r ∷ rows) =
+    cond (sameSection (stepOf (r .before) (r .bytes) .section) (r .leaves)) (rowsLeavingAnother (suc n) rows) (n ∷ rowsLeavingAnother (suc n) rows)
 
 -- ---- the sections that the rows start from
 
@@ -84,70 +69,101 @@ eleven = after begun
 
 -- in force, with A's last form number 9,998 and nothing else
 pub worn : Section
-worn = record {
-  vehicles = padTo 24 [];
-  len = 0;
-  force = true;
-  refused = 0;
-  a = record { clock = 0; last = 9998; sent = 0; interval = Stopped; out = false; guest = 0; asked = 0; holds = 0; owes = 0 };
-  b = freshDesk;
-}
+worn = working 0 [] (figures 0 9998 0 Stopped false 0 0 0 0) freshDesk
 
 -- A1 and B1 opened and met towards B
-met : Section
+pub met : Section
 met = after begun (opens 1 1 1 1 ∷ opens 2 1 1 1 ∷ meet 2 1 1 ∷ [])
 
 -- ---- the table
 
-abbrev row : Section → List ℕ → Answer → Edge
-row before bytes expected = record { before = before; bytes = bytes; expected = expected }
+abbrev row : Section → List ℕ → Answer → Section → Edge
+row before bytes expected leaves = record { before = before; bytes = bytes; expected = expected; leaves = leaves }
 
-abbrev pub plain : Answer
-plain = Accepted 0 0 NoSpeed
+-- "A refusal adds 1 to the count and alters nothing else": of a section whose count is below its largest value
+abbrev refused : Section → List ℕ → Refusal → Edge
+refused s bytes why = row s bytes (Refused why) (record { vehicles = s .vehicles; len = s .len; force = s .force; refused = s .refused + 1; a = s .a; b = s .b })
 
+-- vehicles on the way, unmet: A's OPEN and THROUGH, A's TRAIN, and B's RETURN of a light engine
+abbrev opener : ℕ → ℕ → Vehicle
+opener asked form = vehicle (Open asked) 1 form 2 false 1
+
+abbrev engine : ℕ → Vehicle
+engine form = vehicle Through 1 form 2 false 1
+
+abbrev following : ℕ → Vehicle
+following form = vehicle (Train 0 0) 1 form 2 false 0
+
+abbrev replying : ℕ → ℕ → Vehicle
+replying granted form = vehicle (Return 0 granted) 2 form 1 false 1
+
+-- desks in figures: clock, last, sent, interval, out, guest, asked, holds, owes
 pub edges : List Edge
 edges =
     -- (a) no bytes: 1; map 0: 2
-    row fresh [] (Refused EndsInside)
-    ∷ row fresh (0 ∷ []) (Refused UnknownKind)
+    refused fresh [] EndsInside
+    ∷ refused fresh (0 ∷ []) UnknownKind
     -- (b) asked 8 accepted, 9 or a present 0: 4
-    ∷ row begun (opens 1 0 1 8) (Accepted 1 7 (Kmh 15))
-    ∷ row begun (opens 1 0 1 9) (Refused OutOfRange)
-    ∷ row begun (opens 1 0 1 0) (Refused OutOfRange)
+    ∷ row begun (opens 1 0 1 8) (Accepted 1 7 (Kmh 15)) (working 0 (opener 8 1 ∷ []) (figures 0 1 1 (Since 0) true 0 0 0 0) freshDesk)
+    ∷ refused begun (opens 1 0 1 9) OutOfRange
+    ∷ refused begun (opens 1 0 1 0) OutOfRange
     -- (c) time equal to the clock accepted, one less: 9
-    ∷ row (after begun (opens 1 10 1 1 ∷ [])) (receive 1 10 1 1) plain
-    ∷ row (after begun (opens 1 10 1 1 ∷ [])) (receive 1 9 1 1) (Refused BeforeClock)
+    ∷ row (after begun (opens 1 10 1 1 ∷ [])) (receive 1 10 1 1) plain (working 0 [] (figures 10 1 0 Stopped false 0 0 0 0) freshDesk)
+    ∷ refused (after begun (opens 1 10 1 1 ∷ [])) (receive 1 9 1 1) BeforeClock
     -- (d) follower at 29 minutes: 19, at 30 accepted
-    ∷ row (after holding (train 1 96 ∷ [])) (train 1 125) (Refused IntervalRunning)
+    ∷ refused (after holding (train 1 96 ∷ [])) (train 1 125) IntervalRunning
     ∷ row (after holding (train 1 96 ∷ [])) (train 1 126) (Accepted 3 104 (Kmh 25))
+    (working 0 (following 3 ∷ following 2 ∷ []) (figures 126 3 2 (Since 126) false 0 0 0 0) (figures 75 1 1 (Since 75) false 0 0 0 2))
     -- (e) twelfth THROUGH with no receipt accepted, thirteenth: 17
     ∷ row eleven (through 1 1 74) (Accepted 12 1 (Kmh 15))
-    ∷ row (after eleven (through 1 1 74 ∷ [])) (through 1 1 104) (Refused TwelveSent)
+    (working 0
+    (engine 12 ∷ engine 11 ∷ engine 10 ∷ engine 9 ∷ engine 8 ∷ engine 7 ∷ engine 6 ∷ engine 5 ∷ engine 4 ∷ engine 3 ∷ engine 2 ∷ engine 1 ∷ [])
+    (figures 330 12 12 (Since 330) false 0 0 0 0) freshDesk)
+    ∷ refused (after eleven (through 1 1 74 ∷ [])) (through 1 1 104) TwelveSent
     -- (f) form 9,999 issued, next: 18
-    ∷ row worn (through 1 0 0) (Accepted 9999 1 (Kmh 15))
-    ∷ row (after worn (through 1 0 0 ∷ [])) (through 1 0 30) (Refused FormsUsed)
+    ∷ row worn (through 1 0 0) (Accepted 9999 1 (Kmh 15)) (working 0 (engine 9999 ∷ []) (figures 0 9999 1 (Since 0) false 0 0 0 0) freshDesk)
+    ∷ refused (after worn (through 1 0 0 ∷ [])) (through 1 0 30) FormsUsed
     -- (g) granted equal to asked accepted, one more: 16
     ∷ row guest (returns 2 75 2) (Accepted 1 180 Booked)
-    ∷ row guest (returns 2 75 3) (Refused GrantNotAllowed)
+    (working 0 (replying 2 1 ∷ []) (figures 10 1 1 (Since 10) true 0 0 0 0) (figures 75 1 1 (Since 75) false 0 0 0 2))
+    ∷ refused guest (returns 2 75 3) GrantNotAllowed
     -- (h) A1 and B1 opened, met towards B: A receiving A1: 21; B receiving A1: 20; B receiving B1 accepted
-    ∷ row met (receive 1 2 1 1) (Refused MayNotEnter)
-    ∷ row met (receive 2 2 1 1) (Refused NotNearest)
+    ∷ refused met (receive 1 2 1 1) MayNotEnter
+    ∷ refused met (receive 2 2 1 1) NotNearest
     ∷ row met (receive 2 2 2 1) plain
+    (working 0 (vehicle (Open 1) 1 1 2 true 1 ∷ []) (figures 1 1 1 (Since 1) true 0 0 0 0) (figures 2 1 0 Stopped false 0 0 0 0))
     -- (i) RESUME with nothing in the section accepted though a clear is owed
-    ∷ row holding resume plain
+    ∷ row holding resume plain fresh
     -- (j) OPEN in view 3: walking pace
-    ∷ row begun (opens 1 0 3 1) (Accepted 1 7 Walking)
+    ∷ row begun (opens 1 0 3 1) (Accepted 1 7 Walking) (working 0 (opener 1 1 ∷ []) (figures 0 1 1 (Since 0) true 0 0 0 0) freshDesk)
     -- (k) RETURN with no guest: 14
-    ∷ row begun (returns 1 0 1) (Refused NoGuest)
+    ∷ refused begun (returns 1 0 1) NoGuest
     -- (l) own opener taken back: OPEN in that minute accepted
     ∷ row (after begun (opens 1 10 1 1 ∷ receive 1 12 1 1 ∷ [])) (opens 1 12 1 1) (Accepted 2 7 (Kmh 15))
+    (working 0 (opener 1 2 ∷ []) (figures 12 2 1 (Since 12) true 0 0 0 0) freshDesk)
     ∷ []
 
--- ---- every row holds
+-- ---- every row holds: the answers, and the sections after them in every figure
 
 pub edges-hold : answersTo edges ≡ expectedOf edges
 unfolding edges guest holding eleven worn met stepOf wellMade decode readAt judge mapFits rangesHold entryIn lengthOf entered padTo
 edges-hold = refl
+
+pub edges-leave : rowsLeavingAnother 1 edges ≡ []
+unfolding edges guest holding eleven worn met stepOf wellMade decode readAt judge mapFits rangesHold entryIn lengthOf entered padTo
+edges-leave = refl
+
+-- the sections that the rows find, in figures
+pub edges-find :
+    every
+    (sameSection begun (working 0 [] freshDesk freshDesk)
+    ∷ sameSection guest (working 0 [] (figures 10 1 1 (Since 10) true 0 0 0 0) (figures 70 0 0 Stopped false 1 2 0 0))
+    ∷ sameSection holding (working 0 [] (figures 95 1 0 Stopped false 0 0 2 0) (figures 75 1 1 (Since 75) false 0 0 0 2))
+    ∷ sameSection met (working 0 (vehicle (Open 1) 1 1 2 true 1 ∷ vehicle (Open 1) 2 1 2 true 1 ∷ []) (figures 1 1 1 (Since 1) true 0 0 0 0) (figures 1 1 1 (Since 1) true 0 0 0 0))
+    ∷ [])
+    ≡ true
+unfolding guest holding met stepOf wellMade decode readAt judge mapFits rangesHold entryIn lengthOf entered padTo
+edges-find = refl
 
 -- the section of (f) is well made, and in that of (i) B owes two line clears
 pub worn-made : wellMade worn ≡ true

@@ -2,8 +2,8 @@
 -- Assumes nothing.
 use Prim.Native.Nat.{ℕ}
 use Rattle.working.proofs.Demand3.{demand3}
-use Rattle.working.proofs.Edges.{begin, opens, receive, returns}
 use Rattle.working.proofs.Lists.{Todo, after, done, runs}
+use Rattle.working.proofs.Literals.{begin, opens, receive, returns}
 use Rattle.working.proofs.Swap.{isReceive}
 use Rattle.working.proofs.Tests.{false-true}
 use Rattle.working.specs.Demand3.{AcceptedAt, ReceivesIt, onTheWayTo, vehicleAt}

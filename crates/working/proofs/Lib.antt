@@ -1,5 +1,6 @@
 pub mod Bytes
 pub mod Changes
+pub mod Consequences
 pub mod Corollaries
 pub mod Counted
 pub mod Demand3
@@ -13,8 +14,10 @@ pub mod Judged
 pub mod Kept
 pub mod Line
 pub mod Lists
+pub mod Literals
 pub mod LogSwap
 pub mod Made
+pub mod MadeTable
 pub mod Meeting
 pub mod Moved
 pub mod Opposed

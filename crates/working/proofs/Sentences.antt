@@ -1,10 +1,12 @@
 -- Sentences of document 01, each as one computed equation.
 -- Assumes nothing.
-use Rattle.working.proofs.Edges.{after, begin, begun, guest, holding, meet, opens, plain, receive, resume, returns, train}
+use Prim.Native.Nat.{ℕ}
+use Rattle.working.proofs.Edges.{after, begun, guest, holding}
+use Rattle.working.proofs.Literals.{begin, meet, opens, opensAs, plain, receive, resume, returns, returnsAsking, train, vehicle}
 use Rattle.working.specs.Demand3.{vehicleAt}
 use Rattle.working.specs.Entries.{entryIn, judge, lengthOf, mapFits, rangesHold, readAt, writtenAt}
 use Rattle.working.specs.Events.{decode}
-use Rattle.working.specs.Sections.{countRefusal, emptied, fresh, freshDesk, padTo}
+use Rattle.working.specs.Sections.{countRefusal, emptied, fresh, freshDesk, numberAt, padTo}
 use Rattle.working.specs.Steps.{entered, stepOf}
 use Rattle.working.specs.Turns.{answersIn, turnsFrom, turnsOf}
 use Rattle.working.specs.WellMade.{wellMade}
@@ -14,6 +16,8 @@ use Rattle.working.specs.declared.Movement.the-variants.{Open, Return}
 use Rattle.working.specs.declared.Read.the-variants as read
 use Rattle.working.specs.declared.Refusal.the-variants.{BufferTooShort, EndsInside, IllMade, UnknownKind, WrongMap}
 use Rattle.working.specs.declared.Section.{Section}
+use Rattle.working.specs.declared.Station.the-variants.{A, B}
+use Rattle.working.specs.declared.Station.{Station}
 use Rattle.working.specs.declared.Written.the-variants as written
 use mathlib.Core.Bool.{false, true}
 use mathlib.Core.List.{[], _∷_}
@@ -23,14 +27,22 @@ use mathlib.Core.Path.{_≡_, refl}
 abbrev ill : Section
 ill = record { vehicles = padTo 24 []; len = 1; force = true; refused = 7; a = freshDesk; b = freshDesk }
 
--- a well-made section whose count is at its largest value
-abbrev full : Section
-full = record { vehicles = padTo 24 []; len = 0; force = false; refused = 4294967295; a = freshDesk; b = freshDesk }
+-- a well-made section with so many refused
+abbrev refusing : ℕ → Section
+refusing count = record { vehicles = padTo 24 []; len = 0; force = false; refused = count; a = freshDesk; b = freshDesk }
 
--- A1 and B1 opened; and, from the table of edges, A1 a guest at B, its RETURN then on the way
+-- A1 and B1 opened, and then met
 abbrev opened : Section
 opened = after begun (opens 1 10 1 2 ∷ opens 2 11 2 1 ∷ [])
 
+abbrev meeting : Station → Section
+meeting x = after opened (meet (numberAt x) 1 1 ∷ [])
+
+-- A's train engine, class 2, with three trains asked for, a guest at B
+abbrev visiting : Section
+visiting = after begun (opensAs 1 10 1 2 3 ∷ receive 2 70 1 1 ∷ [])
+
+-- from the table of edges, A1 a guest at B, its RETURN then on the way
 abbrev returning : Section
 returning = after guest (returns 2 75 2 ∷ [])
 
@@ -42,10 +54,10 @@ refusal-counts : stepOf begun begin .section ≡ countRefusal begun
 unfolding stepOf wellMade decode readAt judge mapFits rangesHold entryIn lengthOf entered padTo
 refusal-counts = refl
 
--- "a 32-bit count of refused entries that stops at its largest value"
-count-stops : stepOf full [] .section .refused ≡ 4294967295
+-- "a 32-bit count of refused entries that stops at its largest value": from 4,294,967,294 to 4,294,967,295, and it stays there
+count-stops : (after (refusing 4294967294) ([] ∷ []) ≡ refusing 4294967295) × (after (refusing 4294967294) ([] ∷ [] ∷ []) ≡ refusing 4294967295) × (after (refusing 4294967295) ([] ∷ []) ≡ refusing 4294967295)
 unfolding stepOf wellMade decode readAt judge mapFits rangesHold entryIn lengthOf entered padTo
-count-stops = refl
+count-stops = (refl, refl, refl)
 
 -- "5 is tested first", also before no bytes, and alters nothing
 ill-made-first : (stepOf ill [] .answer ≡ Refused IllMade) × (stepOf ill [] .section ≡ ill)
@@ -77,10 +89,16 @@ train-arrives : (after holding (train 1 96 ∷ []) .a .holds ≡ 1) × (after ho
 unfolding guest holding stepOf wellMade decode readAt judge mapFits rangesHold entryIn lengthOf entered padTo
 train-arrives = (refl, refl)
 
--- "MEET: .. both then head to the station given and are met"
-both-turn : (vehicleAt (after opened (meet 1 1 1 ∷ [])) 0 .heading ≡ 1) × (vehicleAt (after opened (meet 1 1 1 ∷ [])) 1 .heading ≡ 1) × (vehicleAt (after opened (meet 1 1 1 ∷ [])) 0 .met ≡ true)
+-- "the vehicle has the guest's class": a guest of class 2, whose RETURN carries class 2
+guest-class-kept : (visiting .b .guest ≡ 2) × (vehicleAt (after visiting (returnsAsking 2 75 1 3 ∷ [])) 0 ≡ vehicle (Return 1 3) 2 1 1 false 2)
 unfolding stepOf wellMade decode readAt judge mapFits rangesHold entryIn lengthOf entered padTo
-both-turn = (refl, refl, refl)
+guest-class-kept = (refl, refl)
+
+-- "MEET: .. both then head to the station given and are met": either station, and all else of the two as it was
+both-turn : (x : Station) → (vehicleAt (meeting x) 0 ≡ vehicle (Open 2) 1 1 (numberAt x) true 1) × (vehicleAt (meeting x) 1 ≡ vehicle (Open 1) 2 1 (numberAt x) true 1)
+unfolding stepOf wellMade decode readAt judge mapFits rangesHold entryIn lengthOf entered padTo
+both-turn A = (refl, refl)
+both-turn B = (refl, refl)
 
 -- "a log of no bytes has no entries"
 no-entries : turnsOf fresh [] ≡ []

@@ -1,24 +1,38 @@
--- What a call that reads or writes comes to, and how many bytes that can be.
-use Prim.Native.Nat.{_≤_, ℕ}
+-- What a call that reads comes to, and what follows it.
+use Prim.Native.Nat.{_+_, _-_, _≤_, ℕ}
 use Rattle.lister.specs.declared.moving.Input.the-variants as input
 use Rattle.lister.specs.declared.moving.Input.{Input}
-use Rattle.lister.specs.declared.moving.Moved.the-variants as moved
+use Rattle.lister.specs.declared.moving.Moved.the-variants.{Bytes, Failed, Interrupted}
 use Rattle.lister.specs.declared.moving.Moved.{Moved}
+use Rattle.lister.specs.declared.moving.Reading.the-variants.{On, Over}
+use Rattle.lister.specs.declared.moving.Reading.{Reading}
+use Rattle.listing.specs.Lines.{longestLog}
+use lib.Dec.{eqb}
 use lib.IntN.{negsuc, pos, ℤ}
 use mathlib.Core.Bool.{Bool, cond}
 
--- C's answer to the call, whether errno behind it is EINTR, and how many bytes the answer counts
+-- "the lister takes at most 65,536 bytes": a byte more tells a longer log
+abbrev pub mostRead : ℕ
+mostRead = longestLog + 1
+
+-- by C's answer, whether errno is EINTR behind it, and how many bytes the answer counts
 unfoldable pub movedBy : ℤ → Bool → ℕ → Moved
-movedBy (pos n) interrupted count = moved.Bytes count
-movedBy (negsuc n) interrupted count = cond interrupted moved.Interrupted moved.Failed
+movedBy (pos n) interrupted count = Bytes count
+movedBy (negsuc n) interrupted count = cond interrupted Interrupted Failed
 
 -- no more bytes were moved than were lent
 abbrev pub Within : Moved → ℕ → Type 0
-Within (moved.Bytes count) room = count ≤ room
-Within moved.Interrupted room = Unit {0}
-Within moved.Failed room = Unit {0}
+Within (Bytes count) room = count ≤ room
+Within Interrupted room = Unit {0}
+Within Failed room = Unit {0}
 
--- a log has no more bytes than were lent
+-- what follows a read, where so many bytes were read before it and so many interrupted reads are still allowed
+unfoldable pub behindRead : ℕ → ℕ → Moved → Reading
+behindRead done patience (Bytes count) = cond (eqb count 0) (Over (input.Log done)) (On (done + count) patience)
+behindRead done patience Interrupted = cond (eqb patience 0) (Over input.Failed) (On done (patience - 1))
+behindRead done patience Failed = Over input.Failed
+
+-- a log has no more bytes than there is room for
 abbrev pub Holds : Input → ℕ → Type 0
 Holds (input.Log len) room = len ≤ room
 Holds input.Failed room = Unit {0}

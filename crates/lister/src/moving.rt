@@ -1,7 +1,6 @@
 // Standard input and output by C's read and write: what a call came to, and what is tried again.
-ghost use Prim.Native.Nat.{_+_};
-ghost use Rattle.lister.specs.Moving.{Holds, Within, movedBy};
-ghost use Rattle.listing.specs.Lines.{longestLog};
+ghost use Prim.Native.Nat.{_-_, _≤_};
+ghost use Rattle.lister.specs.Moving.{Holds, Within, behindRead, mostRead, movedBy};
 ghost use lib.ListN.{length};
 ghost use mathlib.Core.Path.{_≡_};
 use libc::STDIN_FILENO;
@@ -19,7 +18,13 @@ pub(crate) enum Input {
     Failed,
 }
 
-// How many interrupted calls are tried again. A proved loop has to end, and no run uses this up.
+// Where reading stands behind a read: it goes on, so many bytes read and so many interrupted reads still allowed, or it is over.
+pub(crate) enum Reading {
+    On(usize, usize),
+    Over(Input),
+}
+
+// How many interrupted reads are tried again. A proved loop has to end, and no run uses this up.
 const PATIENCE: usize = 65536;
 
 // What C's answer says of a call that moved `count` bytes if any, where errno may say that a signal came first.
@@ -45,28 +50,43 @@ pub(crate) fn read_some(rest: &mut [u8]) -> Moved
     answered(got, interrupted, count)
 }
 
-// Reads standard input until it ends or the room is full, which is the longest log and a byte more.
+// What follows a read: no bytes are the end of the input, and an interrupted read is tried again while that is allowed.
+pub(crate) fn behind(done: usize, patience: usize, one: Moved) -> Reading
+    requires { ⌜ (done ≤ mostRead) × Within one (mostRead - done) ⌝ }
+    ensures { λ r. ⌜ r ≡ behindRead done patience one ⌝ }
+{
+    match one {
+        Moved::Failed => Reading::Over(Input::Failed),
+        Moved::Interrupted => {
+            if patience == 0 {
+                return Reading::Over(Input::Failed);
+            }
+            Reading::On(done, patience - 1)
+        }
+        Moved::Bytes(count) => {
+            if count == 0 {
+                return Reading::Over(Input::Log(done));
+            }
+            Reading::On(done + count, patience)
+        }
+    }
+}
+
+// Reads standard input until it ends or the room is full, which takes the longest log and a byte more.
 pub(crate) fn read_log(room: &mut [u8]) -> Input
-    requires { ⌜ length (now room) ≡ longestLog + 1 ⌝ }
-    ensures { λ r. ⌜ Holds r (length (now (room .entry))) ⌝ }
+    requires { ⌜ length (now room) ≡ mostRead ⌝ }
+    ensures { λ r. ⌜ Holds r mostRead ⌝ }
 {
     let mut done = 0usize;
     let mut patience = PATIENCE;
     while done < room.len() {
         let one = read_some(&mut room[done..]);
-        match one {
-            Moved::Failed => return Input::Failed,
-            Moved::Interrupted => {
-                if patience == 0 {
-                    return Input::Failed;
-                }
-                patience -= 1;
-            }
-            Moved::Bytes(count) => {
-                if count == 0 {
-                    return Input::Log(done);
-                }
-                done += count;
+        let next = behind(done, patience, one);
+        match next {
+            Reading::Over(input) => return input,
+            Reading::On(read, left) => {
+                done = read;
+                patience = left;
             }
         }
     }

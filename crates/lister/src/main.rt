@@ -1,14 +1,14 @@
 // Lists a log from standard input on standard output. What the machine fails at is said on standard error: after a failed read nothing is listed,
 // and after a failed write nothing more. A contract cannot say what is read or written, so what is here is thin; scripts/try-lister runs it.
-mod moving;
+mod reading;
 
 ghost use Prim.Native.Nat.{_≤_};
 ghost use Rattle.listing.specs.Lines.{longestLine};
 ghost use lib.ListN.{length};
 use libc::STDERR_FILENO;
 use libc::STDOUT_FILENO;
-use moving::Input;
-use moving::read_log;
+use reading::Input;
+use reading::read_log;
 
 // Writes the listing of a log, a block at a time; says whether all of it was written.
 fn write_listing(log: &[u8], block: &mut [u8]) -> bool

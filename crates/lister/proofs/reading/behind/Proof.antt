@@ -1,8 +1,8 @@
--- `lister::moving::behind` meets its contract: each arm is the definition's own.
+-- `lister::reading::behind` meets its contract: each arm is the definition's own.
 -- Assumes nothing.
-use Rattle.lister.proofs.moving.behind.Statement.{statement}
-use Rattle.lister.proofs.moving.behind.Tie as tie
-use Rattle.lister.specs.Moving.{behindRead}
+use Rattle.lister.proofs.reading.behind.Statement.{statement}
+use Rattle.lister.proofs.reading.behind.Tie as tie
+use Rattle.lister.specs.Reading.{behindRead}
 use borrow.Author.Needs.{needs}
 use borrow.Author.Tests.{eq-eqb, ne-eqb}
 use native.Mathlib.Omega.{arith}

@@ -1,12 +1,12 @@
-// Standard input and output by C's read and write: what a call came to, and what is tried again.
+// A log from standard input, by C's read: what a read came to, and what follows it.
 ghost use Prim.Native.Nat.{_-_, _≤_};
-ghost use Rattle.lister.specs.Moving.{Holds, Within, behindRead, mostRead, movedBy};
+ghost use Rattle.lister.specs.Reading.{Holds, Within, behindRead, mostRead, cameBy};
 ghost use lib.ListN.{length};
 ghost use mathlib.Core.Path.{_≡_};
 use libc::STDIN_FILENO;
 
-// What a call came to: so many bytes moved, none yet since a signal came first, or an error.
-pub(crate) enum Moved {
+// What a read came to: so many bytes, none since a signal came first, or an error.
+pub(crate) enum Came {
     Bytes(usize),
     Interrupted,
     Failed,
@@ -27,21 +27,21 @@ pub(crate) enum Reading {
 // How many interrupted reads are tried again. A proved loop has to end, and no run uses this up.
 const PATIENCE: usize = 65536;
 
-// What C's answer says of a call that moved `count` bytes if any, where errno may say that a signal came first.
-pub(crate) fn answered(got: isize, interrupted: bool, count: usize) -> Moved
-    ensures { λ r. ⌜ r ≡ movedBy got interrupted count ⌝ }
+// What C's answer says of a read: `count` bytes unless it is negative, and then errno tells whether a signal came first.
+pub(crate) fn answered(got: isize, interrupted: bool, count: usize) -> Came
+    ensures { λ r. ⌜ r ≡ cameBy got interrupted count ⌝ }
 {
     if got >= 0 {
-        return Moved::Bytes(count);
+        return Came::Bytes(count);
     }
     if interrupted {
-        return Moved::Interrupted;
+        return Came::Interrupted;
     }
-    Moved::Failed
+    Came::Failed
 }
 
 // One read into the memory lent.
-pub(crate) fn read_some(rest: &mut [u8]) -> Moved
+pub(crate) fn read_some(rest: &mut [u8]) -> Came
     ensures { λ r. ⌜ Within r (length (now (rest .entry))) ⌝ }
 {
     let got = libc::read(STDIN_FILENO, rest);
@@ -51,19 +51,19 @@ pub(crate) fn read_some(rest: &mut [u8]) -> Moved
 }
 
 // What follows a read: no bytes are the end of the input, and an interrupted read is tried again while that is allowed.
-pub(crate) fn behind(done: usize, patience: usize, one: Moved) -> Reading
+pub(crate) fn behind(done: usize, patience: usize, one: Came) -> Reading
     requires { ⌜ (done ≤ mostRead) × Within one (mostRead - done) ⌝ }
     ensures { λ r. ⌜ r ≡ behindRead done patience one ⌝ }
 {
     match one {
-        Moved::Failed => Reading::Over(Input::Failed),
-        Moved::Interrupted => {
+        Came::Failed => Reading::Over(Input::Failed),
+        Came::Interrupted => {
             if patience == 0 {
                 return Reading::Over(Input::Failed);
             }
             Reading::On(done, patience - 1)
         }
-        Moved::Bytes(count) => {
+        Came::Bytes(count) => {
             if count == 0 {
                 return Reading::Over(Input::Log(done));
             }

@@ -1,26 +1,26 @@
--- `lister::moving::answered` meets its contract: an answer that is not negative counts bytes, and any other is told apart by the flag.
+-- `lister::reading::answered` meets its contract: an answer that is not negative counts bytes, and any other is told apart by the flag.
 -- Assumes nothing.
 use Prim.Native.Nat.{ℕ}
-use Rattle.lister.proofs.moving.answered.Statement.{statement}
-use Rattle.lister.proofs.moving.answered.Tie as tie
-use Rattle.lister.specs.Moving.{movedBy}
-use Rattle.lister.specs.declared.moving.Moved.the-variants.{Bytes, Failed, Interrupted}
+use Rattle.lister.proofs.reading.answered.Statement.{statement}
+use Rattle.lister.proofs.reading.answered.Tie as tie
+use Rattle.lister.specs.Reading.{cameBy}
+use Rattle.lister.specs.declared.reading.Came.the-variants.{Bytes, Failed, Interrupted}
 use borrow.Author.Tests.{leb-false}
 use lib.IntN.{negsuc, pos, ℤ}
 use lib.Signed.{leZ}
 use mathlib.Core.Bool.{Bool, cond, false, true}
-use mathlib.Core.Path.{_≡_, refl, sym}
+use mathlib.Core.Path.{_≡_, refl}
 use mir.Syntax.{w64}
 use mir.ValLaws.{toZ-ofZ}
 use native.Mathlib.Omega.{arith}
 
-counted : (got : ℤ) (interrupted : Bool) (count : ℕ) → leZ (pos 0) got ≡ true → Bytes count ≡ movedBy got interrupted count
-unfolding movedBy
+counted : (got : ℤ) (interrupted : Bool) (count : ℕ) → leZ (pos 0) got ≡ true → Bytes count ≡ cameBy got interrupted count
+unfolding cameBy
 counted (pos n) interrupted count e = refl
 counted (negsuc n) interrupted count e = cc
 
-told : (got : ℤ) (interrupted : Bool) (count : ℕ) → leZ (pos 0) got ≡ false → cond interrupted Interrupted Failed ≡ movedBy got interrupted count
-unfolding movedBy
+told : (got : ℤ) (interrupted : Bool) (count : ℕ) → leZ (pos 0) got ≡ false → cond interrupted Interrupted Failed ≡ cameBy got interrupted count
+unfolding cameBy
 told (pos n) interrupted count e = absurd (omega (arith, leb-false 0 n e))
 told (negsuc n) interrupted count e = refl
 

@@ -1,18 +1,44 @@
-// Lists a log from standard input on standard output.
-use libc::STDIN_FILENO;
+// Lists a log from standard input on standard output. What the machine fails at is said on standard error: after a failed read nothing is listed,
+// and after a failed write nothing more. A contract cannot say what is read or written, so what is here is thin; scripts/try-lister runs it.
+mod reading;
+
+ghost use Prim.Native.Nat.{_≤_};
+ghost use Rattle.listing.specs.Lines.{longestLine};
+ghost use lib.ListN.{length};
+use libc::STDERR_FILENO;
 use libc::STDOUT_FILENO;
+use reading::Input;
+use reading::read_log;
+
+// Writes the listing of a log, a block at a time; says whether all of it was written.
+fn write_listing(log: &[u8], block: &mut [u8]) -> bool
+    requires { ⌜ longestLine ≤ length (now block) ⌝ }
+{
+    let mut listing = step::begin(log);
+    while !listing.ended {
+        let filled = step::fill(listing, log, block);
+        let count = filled.count;
+        if !io::write_all(STDOUT_FILENO, &block[..count]) {
+            return false;
+        }
+        listing = filled.listing;
+    }
+    true
+}
 
 fn main() {
+    if os::arg_count() > 1 {
+        io::write_all(STDERR_FILENO, b"usage: lister <LOG\n");
+        return;
+    }
     // A byte more than the longest log tells a longer one.
     let mut input = [0u8; 65537];
-    let len = io::read_full(STDIN_FILENO, &mut input);
-    let log = &input[..len];
+    let Input::Log(len) = read_log(&mut input) else {
+        os::fail(b"lister: reading standard input");
+        return;
+    };
     let mut block = [0u8; 16384];
-    let mut listing = listing::begin(log);
-    while !listing.ended {
-        let filled = listing::fill(listing, log, &mut block);
-        let count = filled.count;
-        io::write_all(STDOUT_FILENO, &block[..count]);
-        listing = filled.listing;
+    if !write_listing(&input[..len], &mut block) {
+        os::fail(b"lister: writing standard output");
     }
 }

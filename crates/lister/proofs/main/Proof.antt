@@ -1,85 +1,97 @@
--- `lister::main` is safe and ends: what is read fits the input, what is filled fits the block, and a block leaves fewer lines to come.
+-- `lister::main` is safe: what is read fits the input, and the block has room for a line.
 -- Assumes nothing.
+use Prim.Native.Nat.{_≤_}
 use Rattle.lister.proofs.main.Statement.{statement}
 use Rattle.lister.proofs.main.Tie as tie
-use Rattle.listing.proofs.Ending.{block-fewer, linesLeft}
 use borrow.Author.Needs.{needs}
-use borrow.Author.Tests.{not-true}
 use lib.ListN.{length}
 use lib.Seq.{length-take-le}
-use mathlib.Core.Path.{_≡_, sym}
+use mathlib.Core.Path.{sym}
 use native.Mathlib.Omega.{arith}
 
-abbrev Inv-loop : tie.InvT-loop
-Inv-loop len log block₀ listing₀ block listing = length block ≡ 16384
+-- the log is a part of what was lent for it
+inside : (c : tie.After-known-told) → c .before .len .given .0 .0 ≤ length (c .before .before .before .before .read-log .last .0)
+inside c =
+    let read = c .before .before .before .before in
+    omega (arith, rw (c .before .len .given .1) at (read .read-log .ensures), read .read-log .kept .0)
 
-abbrev μ-loop : tie.MeasureT-loop
-μ-loop len log block₀ listing₀ block listing = linesLeft listing
+arg-count-requires : tie.Need-arg-count-requires
+arg-count-requires c κs = search needs
 
-slice-aggregate-read-full : tie.Need-slice-aggregate-read-full Inv-loop μ-loop
-slice-aggregate-read-full c = search needs
+slice-aggregate-write-all : tie.Need-slice-aggregate-write-all
+slice-aggregate-write-all c = search needs
 
-read-full-requires : tie.Need-read-full-requires Inv-loop μ-loop
-read-full-requires c κs = search needs
-
-array-share-prefix-input : tie.Need-array-share-prefix-input Inv-loop μ-loop
-array-share-prefix-input c = search needs
-
-slice-aggregate-log : tie.Need-slice-aggregate-log Inv-loop μ-loop
-slice-aggregate-log c = search needs
-
-begin-requires : tie.Need-begin-requires Inv-loop μ-loop
-begin-requires c κs = search needs
-
-loop-holds : tie.Need-loop-holds Inv-loop μ-loop
-loop-holds c = search needs
-
-slice-aggregate-fill : tie.Need-slice-aggregate-fill Inv-loop μ-loop
-slice-aggregate-fill c = search needs
-
-fill-requires : tie.Need-fill-requires Inv-loop μ-loop
-fill-requires c κs = search needs
-
-array-share-prefix-block : tie.Need-array-share-prefix-block Inv-loop μ-loop
-array-share-prefix-block c = search needs
-
-slice-aggregate-write-all : tie.Need-slice-aggregate-write-all Inv-loop μ-loop
-slice-aggregate-write-all c =
-    let fill = c .before .before .fill in
-    sym (length-take-le (fill .result .count) (fill .last .1 .1 .0) (omega (arith, fill .ensures .room, fill .kept .1 .1 .0)))
-
-write-all-requires : tie.Need-write-all-requires Inv-loop μ-loop
+write-all-requires : tie.Need-write-all-requires
 write-all-requires c κs = search needs
 
-loop-less : tie.Need-loop-less Inv-loop μ-loop
-loop-less c =
-    let l = c .before .before .before .before .before .before .before .before .loop in
-    rw (c .before .before .before .before .fill .ensures .listing)
-    (block-fewer _ (length (l .block)) (l .listing) (length (l .block)) (not-true (l .listing .ended) (c .before .before .before .before .before .before .if1 .taken)) (omega (arith, l .inv)) (omega (arith, l .inv)))
-
-loop-again : tie.Need-loop-again Inv-loop μ-loop
-loop-again c = search needs
-
-returns : tie.Need-returns Inv-loop μ-loop
+returns : tie.Need-returns
 returns c = search needs
+
+slice-aggregate-read-log : tie.Need-slice-aggregate-read-log
+slice-aggregate-read-log c = search needs
+
+read-log-requires : tie.Need-read-log-requires
+read-log-requires c κs = search needs
+
+enum-known-len : tie.Need-enum-known-len
+enum-known-len c = search needs
+
+enum-told : tie.Need-enum-told
+enum-told c = search needs
+
+slice-aggregate-fail : tie.Need-slice-aggregate-fail
+slice-aggregate-fail c = search needs
+
+fail-requires : tie.Need-fail-requires
+fail-requires c κs = search needs
+
+returns-2 : tie.Need-returns-2
+returns-2 c = search needs
+
+array-share-prefix-input : tie.Need-array-share-prefix-input
+array-share-prefix-input c = inside c
+
+slice-aggregate-write-listing : tie.Need-slice-aggregate-write-listing
+slice-aggregate-write-listing c = sym (length-take-le _ _ (inside (c .before)))
+
+slice-aggregate-write-listing-2 : tie.Need-slice-aggregate-write-listing-2
+slice-aggregate-write-listing-2 c = search needs
+
+write-listing-requires : tie.Need-write-listing-requires
+write-listing-requires c κs = search needs
+
+slice-aggregate-fail-2 : tie.Need-slice-aggregate-fail-2
+slice-aggregate-fail-2 c = search needs
+
+fail-requires-2 : tie.Need-fail-requires-2
+fail-requires-2 c κs = search needs
+
+returns-3 : tie.Need-returns-3
+returns-3 c = search needs
+
+returns-4 : tie.Need-returns-4
+returns-4 c = search needs
 
 pub main-spec : {M : Type 1} → statement M
 main-spec =
     tie.close
     (tie.spec
-    Inv-loop
-    μ-loop
-    slice-aggregate-read-full
-    read-full-requires
-    array-share-prefix-input
-    slice-aggregate-log
-    begin-requires
-    loop-holds
-    slice-aggregate-fill
-    fill-requires
-    array-share-prefix-block
+    arg-count-requires
     slice-aggregate-write-all
     write-all-requires
-    loop-less
-    loop-again
-    returns)
+    returns
+    slice-aggregate-read-log
+    read-log-requires
+    enum-known-len
+    enum-told
+    slice-aggregate-fail
+    fail-requires
+    returns-2
+    array-share-prefix-input
+    slice-aggregate-write-listing
+    slice-aggregate-write-listing-2
+    write-listing-requires
+    slice-aggregate-fail-2
+    fail-requires-2
+    returns-3
+    returns-4)

@@ -25,7 +25,7 @@ slice-relend-prefix-list-read c = search needs
 slice-aggregate-list-read : tie.Need-slice-aggregate-list-read
 slice-aggregate-list-read c =
     let start = c .before .before .before .before .before .before .before .before in
-    sym (length-take-le (c .before .packed-length .result) (start .args .room .now) (omega (arith, c .before .packed-length .ensures, start .pre .0)))
+    sym (length-take-le (c .before .packed-length .result) (start .args .room .now) (omega (arith, c .before .packed-length .ensures, start .pre)))
 
 list-read-requires : tie.Need-list-read-requires
 list-read-requires c κs = search needs

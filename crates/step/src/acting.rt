@@ -12,6 +12,8 @@ ghost use mathlib.Core.List.{List};
 ghost use mathlib.Core.Path.{_≡_};
 use crate::events::act_of;
 use crate::events::station_of;
+use words::FigureWords;
+use words::LineWords;
 use words::any_present;
 use words::count_refusal;
 use words::desk;
@@ -35,7 +37,7 @@ use working::Station;
 use working::Vehicle;
 
 // A refusal: one more in the count, and nothing else altered.
-fn refuse(figures: &mut [u64; 21], why: Refusal) -> Answer
+fn refuse(figures: &mut FigureWords, why: Refusal) -> Answer
     ensures { λ r. ⌜ ((l : List ℕ) → Leaves (refused (sectionIn l (now (figures .entry))) why) r (sectionIn l (now (figures .exit)))) ⌝ }
 {
     count_refusal(figures);
@@ -54,7 +56,7 @@ fn accepted() -> Answer
 }
 
 // The plan's effect: the station's desk replaced, and a vehicle put in or taken out at its end.
-fn act_by(line: &mut [u64; 24], figures: &mut [u64; 21], at: Station, plan: Plan) -> Answer
+fn act_by(line: &mut LineWords, figures: &mut FigureWords, at: Station, plan: Plan) -> Answer
     ensures { λ r. ⌜ LeavesIn (now (line .entry)) (now (figures .entry)) (λ s. doneBy s at plan) r (now (line .exit)) (now (figures .exit)) ⌝ }
 {
     match plan {
@@ -83,7 +85,7 @@ fn act_by(line: &mut [u64; 24], figures: &mut [u64; 21], at: Station, plan: Plan
     }
 }
 
-fn begin(line: &mut [u64; 24], figures: &mut [u64; 21]) -> Answer
+fn begin(line: &mut LineWords, figures: &mut FigureWords) -> Answer
     ensures { λ r. ⌜ LeavesIn (now (line .entry)) (now (figures .entry)) (λ s. entered s Begin) r (now (line .exit)) (now (figures .exit)) ⌝ }
 {
     if in_force(figures) {
@@ -93,7 +95,7 @@ fn begin(line: &mut [u64; 24], figures: &mut [u64; 21]) -> Answer
     accepted()
 }
 
-fn resume(line: &mut [u64; 24], figures: &mut [u64; 21]) -> Answer
+fn resume(line: &mut LineWords, figures: &mut FigureWords) -> Answer
     ensures { λ r. ⌜ LeavesIn (now (line .entry)) (now (figures .entry)) (λ s. entered s Resume) r (now (line .exit)) (now (figures .exit)) ⌝ }
 {
     if !in_force(figures) {
@@ -107,8 +109,8 @@ fn resume(line: &mut [u64; 24], figures: &mut [u64; 21]) -> Answer
 }
 
 fn meet_at(
-    line: &mut [u64; 24],
-    figures: &mut [u64; 21],
+    line: &mut LineWords,
+    figures: &mut FigureWords,
     to: Station,
     sender: Station,
     form: u16,
@@ -127,7 +129,7 @@ fn meet_at(
 }
 
 // The vehicle that an act is decided by: a RECEIVE looks at the one nearest its station, and a departure at none.
-fn looked_at(line: &[u64; 24], figures: &[u64; 21], at: Station, act: Act) -> Vehicle
+fn looked_at(line: &LineWords, figures: &FigureWords, at: Station, act: Act) -> Vehicle
     ensures { λ r. ⌜ r ≡ lookedAt act at (sectionIn (now (line .entry)) (now (figures .entry))) ⌝ }
 {
     match act {
@@ -151,7 +153,13 @@ fn looked_at(line: &[u64; 24], figures: &[u64; 21], at: Station, act: Act) -> Ve
 }
 
 // A station's act: decided from its own desk and, where it is a RECEIVE, the vehicle nearest it.
-fn act_at(line: &mut [u64; 24], figures: &mut [u64; 21], at: Station, time: u16, act: Act) -> Answer
+fn act_at(
+    line: &mut LineWords,
+    figures: &mut FigureWords,
+    at: Station,
+    time: u16,
+    act: Act,
+) -> Answer
     ensures { λ r. ⌜ LeavesIn (now (line .entry)) (now (figures .entry)) (λ s. entered s (At at time act)) r (now (line .exit)) (now (figures .exit)) ⌝ }
 {
     let d = desk(figures, at);
@@ -161,7 +169,7 @@ fn act_at(line: &mut [u64; 24], figures: &mut [u64; 21], at: Station, time: u16,
 }
 
 // The answer to an entry that is taken; the section after it is left in the words. Whether the section is well made is not looked at here.
-fn enter_in(line: &mut [u64; 24], figures: &mut [u64; 21], e: Entry) -> Answer
+fn enter_in(line: &mut LineWords, figures: &mut FigureWords, e: Entry) -> Answer
     ensures { λ r. ⌜ LeavesIn (now (line .entry)) (now (figures .entry)) (λ s. entered s (eventOf e)) r (now (line .exit)) (now (figures .exit)) ⌝ }
 {
     let kind = e.kind;
@@ -180,7 +188,7 @@ fn enter_in(line: &mut [u64; 24], figures: &mut [u64; 21], e: Entry) -> Answer
 
 // The answer to what was read at some place; the section after it is left in the words: for those who read a log themselves and print or count as they go, from a
 // well-made section. No bytes give 1. The section is not tested here; a step keeps a well-made section well made.
-pub(crate) fn answer_in(line: &mut [u64; 24], figures: &mut [u64; 21], read: Read) -> Answer
+pub(crate) fn answer_in(line: &mut LineWords, figures: &mut FigureWords, read: Read) -> Answer
     ensures { λ r. ⌜ LeavesIn (now (line .entry)) (now (figures .entry)) (λ s. onDecoded s (decodedAs read)) r (now (line .exit)) (now (figures .exit)) ⌝ }
 {
     match read {

@@ -6,6 +6,7 @@ use crate::text::put_bytes;
 use crate::text::put_figure;
 use crate::text::put_hex;
 use crate::text::put_number;
+use crate::text::put_numbers;
 use working::Answer;
 use working::Entry;
 use working::Read;
@@ -42,18 +43,25 @@ fn put_answer(text: &mut [u8], at: usize, answer: Answer) -> usize {
     }
 }
 
+fn entry_fields(e: Entry) -> [u64; 10] {
+    let number = e.number as u64;
+    [
+        e.map as u64,
+        e.kind as u64,
+        e.station as u64,
+        e.time as u64,
+        e.view as u64,
+        e.class as u64,
+        e.asked as u64,
+        e.granted as u64,
+        e.sender as u64,
+        number,
+    ]
+}
+
 fn put_entry(text: &mut [u8], at: usize, e: Entry) -> usize {
     let at = put_bytes(text, at, b" entry");
-    let at = put_number(text, at, e.map as u64);
-    let at = put_number(text, at, e.kind as u64);
-    let at = put_number(text, at, e.station as u64);
-    let at = put_number(text, at, e.time as u64);
-    let at = put_number(text, at, e.view as u64);
-    let at = put_number(text, at, e.class as u64);
-    let at = put_number(text, at, e.asked as u64);
-    let at = put_number(text, at, e.granted as u64);
-    let at = put_number(text, at, e.sender as u64);
-    put_number(text, at, e.number as u64)
+    put_numbers(text, at, &entry_fields(e))
 }
 
 fn put_read(text: &mut [u8], at: usize, read: Read) -> usize {
@@ -104,12 +112,16 @@ pub(crate) fn put_figures(text: &mut [u8], at: usize, word: &[u8], s: Section) -
     put_hex(text, at, word, &figures)
 }
 
+fn put_outcome(text: &mut [u8], at: usize, written: Written) -> usize {
+    match written {
+        Written::Filled(next) => put_figure(text, at, b" filled", next),
+        Written::Refused(why) => put_refusal(text, at, why),
+    }
+}
+
 // A word and what the writer answered.
 pub(crate) fn put_written(text: &mut [u8], at: usize, word: &[u8], written: Written) -> usize {
     let at = put_bytes(text, at, word);
-    let at = match written {
-        Written::Filled(next) => put_figure(text, at, b" filled", next),
-        Written::Refused(why) => put_refusal(text, at, why),
-    };
+    let at = put_outcome(text, at, written);
     put(text, at, b'\n')
 }

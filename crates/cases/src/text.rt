@@ -43,6 +43,17 @@ pub(crate) fn put_number(text: &mut [u8], at: usize, n: u64) -> usize {
     put_bytes(text, at, &digits[..count])
 }
 
+// Numbers one behind the other.
+pub(crate) fn put_numbers(text: &mut [u8], at: usize, numbers: &[u64]) -> usize {
+    let mut end = at;
+    let mut i = 0;
+    while i < numbers.len() {
+        end = put_number(text, end, numbers[i]);
+        i += 1;
+    }
+    end
+}
+
 // A word and a number behind it.
 pub(crate) fn put_figure(text: &mut [u8], at: usize, word: &[u8], n: usize) -> usize {
     let at = put_bytes(text, at, word);

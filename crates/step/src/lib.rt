@@ -8,7 +8,6 @@ mod stepping;
 pub use acting::answer_in;
 pub use acting::enter_in;
 pub use memory::step_in;
-pub use memory::step_via;
 pub use running::Last;
 pub use running::Progress;
 pub use running::Ran;

@@ -1,6 +1,8 @@
 // A section in figures: the 248 bytes of docs/CASES.md.
-ghost use Prim.Native.Nat.{_+_, _≤_};
+ghost use Prim.Native.Nat.{_*_, _+_, _≤_};
+ghost use Rattle.cases.specs.Figures.{deskAt, entryIn, intervalOf, movementOf, numberAt, placesAt, sectionIn, vehicleAt};
 ghost use lib.ListN.{length};
+ghost use mathlib.Core.Path.{_≡_};
 use crate::input::number;
 use crate::text::put_bytes;
 use working::Desk;
@@ -21,24 +23,39 @@ const DESK_A: usize = 222;
 
 const DESK_B: usize = 235;
 
+// The number at a place, high byte first.
+fn number_at(figures: &[u8], at: usize) -> u16
+    requires { ⌜ at + 2 ≤ length (now figures) ⌝ }
+    ensures { λ r. ⌜ r ≡ numberAt (now (figures .entry)) at ⌝ }
+{
+    number(figures[at], figures[at + 1])
+}
+
 // What a vehicle left on: kind 0, the unused place, is the OPEN that asks for nothing.
-fn movement_in(kind: u8, asked: u8, granted: u8) -> Movement {
-    match kind {
-        3 => Movement::Through,
-        4 => Movement::Return { asked, granted },
-        5 => Movement::Train { asked, granted },
-        _ => Movement::Open { asked },
+fn movement_in(kind: u8, asked: u8, granted: u8) -> Movement
+    ensures { λ r. ⌜ r ≡ movementOf kind asked granted ⌝ }
+{
+    if kind == 3 {
+        return Movement::Through;
     }
+    if kind == 4 {
+        return Movement::Return { asked, granted };
+    }
+    if kind == 5 {
+        return Movement::Train { asked, granted };
+    }
+    Movement::Open { asked }
 }
 
 // The nine bytes of a place.
 fn vehicle_in(figures: &[u8], at: usize) -> Vehicle
     requires { ⌜ at + 9 ≤ length (now figures) ⌝ }
+    ensures { λ r. ⌜ r ≡ vehicleAt (now (figures .entry)) at ⌝ }
 {
     Vehicle {
         movement: movement_in(figures[at], figures[at + 1], figures[at + 2]),
         sender: figures[at + 3],
-        form: number(figures[at + 4], figures[at + 5]),
+        form: number_at(figures, at + 4),
         heading: figures[at + 6],
         met: figures[at + 7] == 1,
         class: figures[at + 8],
@@ -48,6 +65,7 @@ fn vehicle_in(figures: &[u8], at: usize) -> Vehicle
 // The 24 places.
 fn vehicles_in(figures: &[u8]) -> [Vehicle; 24]
     requires { ⌜ 248 ≤ length (now figures) ⌝ }
+    ensures { λ r. ⌜ r ≡ placesAt 24 (now (figures .entry)) 0 ⌝ }
 {
     let mut places = [Vehicle::unused(); 24];
     let mut i = 0;
@@ -58,7 +76,9 @@ fn vehicles_in(figures: &[u8]) -> [Vehicle; 24]
     places
 }
 
-fn interval_in(running: u8, minute: u16) -> Interval {
+fn interval_in(running: u8, minute: u16) -> Interval
+    ensures { λ r. ⌜ r ≡ intervalOf running minute ⌝ }
+{
     if running == 1 {
         Interval::Since(minute)
     } else {
@@ -69,13 +89,13 @@ fn interval_in(running: u8, minute: u16) -> Interval {
 // The thirteen bytes of a desk.
 fn desk_in(figures: &[u8], at: usize) -> Desk
     requires { ⌜ at + 13 ≤ length (now figures) ⌝ }
+    ensures { λ r. ⌜ r ≡ deskAt (now (figures .entry)) at ⌝ }
 {
-    let minute = number(figures[at + 6], figures[at + 7]);
     Desk {
-        clock: number(figures[at], figures[at + 1]),
-        last: number(figures[at + 2], figures[at + 3]),
+        clock: number_at(figures, at),
+        last: number_at(figures, at + 2),
         sent: figures[at + 4],
-        interval: interval_in(figures[at + 5], minute),
+        interval: interval_in(figures[at + 5], number_at(figures, at + 6)),
         out: figures[at + 8] == 1,
         guest: figures[at + 9],
         asked: figures[at + 10],
@@ -84,24 +104,35 @@ fn desk_in(figures: &[u8], at: usize) -> Desk
     }
 }
 
+// The count of refused entries, four bytes.
+fn refused_in(figures: &[u8]) -> u32
+    requires { ⌜ 248 ≤ length (now figures) ⌝ }
+    ensures { λ r. ⌜ r ≡ numberAt (now (figures .entry)) 218 * 65536 + numberAt (now (figures .entry)) 220 ⌝ }
+{
+    let high = number_at(figures, REFUSED);
+    let low = number_at(figures, REFUSED + 2);
+    (high as u32) * 65536 + low as u32
+}
+
 // The section that the figures say, well made or not.
 pub(crate) fn section_in(figures: &[u8]) -> Section
     requires { ⌜ 248 ≤ length (now figures) ⌝ }
+    ensures { λ r. ⌜ r ≡ sectionIn (now (figures .entry)) ⌝ }
 {
-    let high = number(figures[REFUSED], figures[REFUSED + 1]);
-    let low = number(figures[REFUSED + 2], figures[REFUSED + 3]);
     Section {
         vehicles: vehicles_in(figures),
         len: figures[PRESENT] as usize,
         force: figures[FORCE] == 1,
-        refused: (high as u32) * 65536 + low as u32,
+        refused: refused_in(figures),
         a: desk_in(figures, DESK_A),
         b: desk_in(figures, DESK_B),
     }
 }
 
 // An entry's map and fields, absent ones too.
-pub(crate) fn entry_in(head: [u8; 16]) -> Entry {
+pub(crate) fn entry_in(head: [u8; 16]) -> Entry
+    ensures { λ r. ⌜ r ≡ entryIn head ⌝ }
+{
     Entry {
         map: head[0],
         kind: head[1],

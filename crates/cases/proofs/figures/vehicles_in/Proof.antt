@@ -1,14 +1,19 @@
--- `figures::vehicles_in` is safe and ends: the 24 places of nine bytes lie within the figures.
+-- `figures::vehicles_in` meets its contract. The loop's invariant: each vehicle below `i` is the one that the nine bytes of its place say.
 -- Assumes nothing.
-use Prim.Native.Nat.{_-_, _≤_}
+use Prim.Native.Nat.{_*_, _-_, _<_, _≤_, ℕ}
+use Rattle.cases.proofs.Places.{all-places}
 use Rattle.cases.proofs.figures.vehicles_in.Statement.{statement}
 use Rattle.cases.proofs.figures.vehicles_in.Tie as tie
+use Rattle.cases.specs.Figures.{vehicleAt}
+use Rattle.words.proofs.Keeping.{stored-more}
+use Rattle.working.specs.Sections.{unused}
 use borrow.Author.Needs.{needs}
-use lib.ListN.{length}
-use mathlib.Core.Path.{_≡_}
+use lib.ListN.{getD, length, length-set}
+use mathlib.Core.Path.{_≡_, sym}
+use native.Mathlib.Omega.{arith}
 
 abbrev Inv-loop : tie.InvT-loop
-Inv-loop figures places₀ i₀ places i = (i ≤ 24) × (length places ≡ 24)
+Inv-loop figures places₀ i₀ places i = (i ≤ 24) × (length places ≡ 24) × ((k : ℕ) → k < i → vehicleAt figures (k * 9) ≡ getD places k unused)
 
 abbrev μ-loop : tie.MeasureT-loop
 μ-loop figures places₀ i₀ places i = 24 - i
@@ -17,7 +22,7 @@ unused-requires : tie.Need-unused-requires Inv-loop μ-loop
 unused-requires c κs = search needs
 
 loop-holds : tie.Need-loop-holds Inv-loop μ-loop
-loop-holds c = search needs
+loop-holds c = (search needs, search needs, λ k h. absurd (omega arith))
 
 mul-vehicle-in : tie.Need-mul-vehicle-in Inv-loop μ-loop
 mul-vehicle-in c = search needs
@@ -38,10 +43,18 @@ loop-less : tie.Need-loop-less Inv-loop μ-loop
 loop-less c = search needs
 
 loop-again : tie.Need-loop-again Inv-loop μ-loop
-loop-again c = search needs
+loop-again c =
+    let l = c .before .before .loop in
+    let figures = c .before .before .before .before .before .args .figures .now in (
+      omega arith,
+      simp length-set (l .inv .1),
+      stored-more (λ k v. vehicleAt figures (k * 9) ≡ v) (l .places) (l .i) (c .vehicle-in .result) unused (omega arith) (l .inv .2) (sym (c .vehicle-in .ensures)),
+    )
 
 returns : tie.Need-returns Inv-loop μ-loop
-returns c = search needs
+returns c =
+    let l = c .before .loop in
+    all-places (c .before .before .before .before .args .figures .now) (l .places) (l .inv .1) (λ k h. l .inv .2 k (omega arith))
 
 pub vehicles-in-spec : {M : Type 1} → statement M
 vehicles-in-spec =

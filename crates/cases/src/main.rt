@@ -32,6 +32,7 @@ fn run_next(room: &mut [u8], text: &mut [u8]) -> bool
     }
 }
 
+// Runs at most 65,536 cases. The longest text is that of a case with two buffers of 4,096 bytes in hex.
 fn main() {
     let mut room = [0u8; 4096];
     let mut text = [0u8; 20480];

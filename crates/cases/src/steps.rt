@@ -12,6 +12,7 @@ use libc::STDIN_FILENO;
 use step::step;
 use working::Section;
 
+// The lines of both forms of the step on the same section and bytes.
 fn step_both(s: Section, bytes: &[u8], text: &mut [u8]) {
     let value = step(s, bytes);
     let memory = step_via(s, bytes);

@@ -16,7 +16,7 @@ use entry::writing::write_entry;
 use libc::STDIN_FILENO;
 use working::Entry;
 
-// The entry appended to the buffer.
+// The first line, the entry appended to the buffer, and the buffer after it.
 fn put_append(buffer: &mut [u8], fill: usize, e: Entry, text: &mut [u8]) -> usize {
     let at = put_figure(text, 0, b"write", fill);
     let at = put_number(text, at, buffer.len() as u64);
@@ -25,12 +25,13 @@ fn put_append(buffer: &mut [u8], fill: usize, e: Entry, text: &mut [u8]) -> usiz
     put_hex(text, at, b"buffer", buffer)
 }
 
-// The entry written at the front of the buffer.
+// The entry written at the front of the buffer, and the buffer after it.
 fn put_front(buffer: &mut [u8], e: Entry, text: &mut [u8], at: usize) -> usize {
     let at = put_written(text, at, b"front", write_entry(buffer, e));
     put_hex(text, at, b"buffer", buffer)
 }
 
+// The lines of both: the copy is taken before anything is written.
 fn write_both(buffer: &mut [u8], other: &mut [u8], fill: usize, e: Entry, text: &mut [u8])
     requires { ⌜ length (now buffer) ≤ length (now other) ⌝ }
 {

@@ -89,12 +89,17 @@ module _ {M : Type 1} (𝓤 : URA M) (H : Heap 𝓤) (A : Atoms 𝓤) (W : Given
   advance-said : (d r : Reader) → ent 𝓤 (ensured 𝓤 H A advance.ended (advance.clauses 𝓤 H A mem run) (κ, tt) (d, tt) tt r) (fact 𝓤 (Moved d r))
   advance-said d r = exE 𝓤 _ (λ ws. snd∗ 𝓤 (sem 𝓤 H A (lasts advance.ended (κ, tt) (d, tt) ws)) (fact 𝓤 (Moved d r)))
 
+  -- a reader's position fits, as what it owns tells
+  fits : (t : Reader) (u : Val) → Is (B (κ, tt)) t (u ∷ []) → t .at < 2 ^ 64
+  fits t u is =
+      LL.lawful (T.the-type (held κ)) (T′.the-laws (held κ)) 𝓤 H A W .typed t _ (subst (Is (B (κ, tt)) t) (LL.tells (T.the-type (held κ)) (T′.the-laws (held κ)) t (u ∷ []) is) is) .0 .1 .1 .0 .fits
+
   exits : (m : ℕ) → m < 2 ^ 64 → m ≡ found → ent 𝓤 (⋆ 𝓤 H A ((‵ (flft κ q) ⊛ ‵ ftrue) ∷ ‵ (LogOwn κ s) ∷ [])) (Post (vint w64 m))
-  exits m fits e =
+  exits m less e =
       qed W ((‵ (flft κ q) ⊛ ‵ ftrue) ∷ ‵ (LogOwn κ s) ∷ []) ∵
       suffices ! _ (ends-at 𝓤 H A move-on.ended stayed (move-on.clauses 𝓤 H A mem run) W (((κ, tt), (q, tt), tt, (s, (n, tt)), argVals reader), tt) (vint w64 m) m (tt, (tt, tt)) (tt, (tt, tt))) $ says ! e $
       frame ! $ nothing ! $ owned ! usize (Is usize) (uint-makes 𝓤 H A W w64) n _ (refl, ok) $ fjoin ! $ move ! (1 ∷ 0 ∷ []) $ fjoin ! $ frame ! $
-      owned ! usize (Is usize) (uint-makes 𝓤 H A W w64) m _ (refl, fits) $ done !
+      owned ! usize (Is usize) (uint-makes 𝓤 H A W w64) m _ (refl, less) $ done !
 
   module _ (C : Calls 𝓤 H) (Λ : Loops 𝓤 H) (fm : FmC 𝓤 H (W .laws) C) (known-at : Triple 𝓤 (C #at) (At 𝓤 H A mem run)) (known-advance : Triple 𝓤 (C #advance) (Advance 𝓤 H A mem run)) where
     walk : Is (Log κ) s (logVal s ∷ []) → ent 𝓤 (onEntry 𝓤 H A move-on.signature (κ, tt) (q, tt) (s, (n, tt)) (argVals reader)) (WpFn 𝓤 H C Λ code.function (logVal s ∷ vint w64 n ∷ []) Post)
@@ -114,14 +119,12 @@ module _ {M : Type 1} (𝓤 : URA M) (H : Heap 𝓤) (A : Atoms 𝓤) (W : Given
         split ! $ move ! (1 ∷ []) $ use1 W (raw (fact 𝓤 (Moved r t))) (advance-said r t) $ heard ! (Moved r t) (λ e′. split ! $ move ! (1 ∷ []) $
         -- [what the reader owns; the token; what the log owns; _4; …; room for _3; …; _2; …; _1; …; room for _0; …]
         peeks ! (B (κ, tt)) (Is (B (κ, tt))) (shows 𝓤 H A (B (κ, tt))) t (u′ ∷ []) (λ is′.
-        let back = subst (Is (B (κ, tt)) t) (LL.tells (T.the-type (held κ)) (T′.the-laws (held κ)) t (u′ ∷ []) is′) is′ in
-        let fits = LL.lawful (T.the-type (held κ)) (T′.the-laws (held κ)) 𝓤 H A W .typed t _ back .0 .1 .1 .0 in
         land ! (from ! (stop !)) (init ! 5 refl (LL.lawful (T.the-type (held κ)) (T′.the-laws (held κ)) 𝓤 H A W .typed t _ is′ .0)) $
         rewrite ! 5 (λ (w : Val). ‵ (fat fullShare (T′.mir erased) l₃ 0 w)) (ap only (LL.tells (T.the-type (held κ)) (T′.the-laws (held κ)) t (u′ ∷ []) is′)) refl $
-        assigns ! (of-opd ! (load ! (from ! (fld ! refl (stop !))) (look-in ! 5 (sub ! 1 refl (whole !))))) (from ! (stop !)) (init ! 11 refl (tt, fits)) $
+        assigns ! (of-opd ! (load ! (from ! (fld ! refl (stop !))) (look-in ! 5 (sub ! 1 refl (whole !))))) (from ! (stop !)) (init ! 11 refl (tt, record { fits = fits t u′ is′ })) $
         returns ! (look ! 11 refl) $ forget ! 3 refl $ forget ! 5 refl $ forget ! 7 refl $ forget ! 9 refl $ forget ! 11 refl $
         move ! (11 ∷ 12 ∷ []) $ free1 ! $ move ! (9 ∷ 10 ∷ []) $ free1 ! $ move ! (7 ∷ 8 ∷ []) $ free1 ! $ move ! (5 ∷ 6 ∷ []) $ free1 ! $ move ! (3 ∷ 4 ∷ []) $ free1 ! $ free0 ! $
-        drop ! $ by ! (exits (t .at) (fits .fits) (e′ .1 ∙ ap on (λ i. record { log = e .0 i; at = e .1 i }))))))))))))))))
+        drop ! $ by ! (exits (t .at) (fits t u′ is′) (e′ .1 ∙ ap on (λ i. record { log = e .0 i; at = e .1 i }))))))))))))))))
 
 module _ {M : Type 1} (𝓤 : URA M) (H : Heap 𝓤) (A : Atoms 𝓤) (W : Given 𝓤 H A) (mem : Memory → SProp 𝓤) (run : Routine → Fun 𝓤) where
   move-on-walks : (C : Calls 𝓤 H) (Λ : Loops 𝓤 H) → FmC 𝓤 H (W .laws) C → Triple 𝓤 (C #at) (At 𝓤 H A mem run) → Triple 𝓤 (C #advance) (Advance 𝓤 H A mem run)

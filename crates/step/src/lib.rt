@@ -13,7 +13,6 @@ pub use blocks::fill;
 pub use lines::Listing;
 pub use lines::begin;
 pub use memory::step_in;
-pub use memory::step_via;
 pub use running::Last;
 pub use running::Ran;
 pub use running::run;

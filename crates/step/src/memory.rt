@@ -1,10 +1,9 @@
 // The step that alters the section in the owner's own memory.
 ghost use mathlib.Core.Path.{_≡_};
-ghost use Rattle.working.specs.Runs.{StepLeaves, StepReturns};
+ghost use Rattle.working.specs.Runs.{StepLeaves};
 use crate::stepping::step;
 use working::Answer;
 use working::Section;
-use working::Stepped;
 
 // The step on the section lent: its answer is returned, and the section after it is left where it was.
 pub fn step_in(s: &mut Section, bytes: &[u8]) -> Answer
@@ -13,13 +12,4 @@ pub fn step_in(s: &mut Section, bytes: &[u8]) -> Answer
     let after = step(*s, bytes);
     *s = after.section;
     after.answer
-}
-
-// The same for callers that hold the section by value.
-pub fn step_via(s: Section, bytes: &[u8]) -> Stepped
-    ensures { λ r. ⌜ StepReturns s (now (bytes .entry)) r ⌝ }
-{
-    let mut t = s;
-    let answer = step_in(&mut t, bytes);
-    Stepped { answer, section: t }
 }

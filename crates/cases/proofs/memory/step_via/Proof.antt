@@ -1,4 +1,4 @@
--- `step::memory::step_via` meets its contract: a walk of its MIR, by hand. A copy of the section is lent by `&mut` to `step_in`, for a lifetime that is made for the call, and is taken back at its last value.
+-- `memory::step_via` meets its contract: a walk of its MIR, by hand. A copy of the section is lent by `&mut` to `step_in`, for a lifetime that is made for the call, and is taken back at its last value.
 -- All that the proof knows of `step_in` is that it meets its contract.
 -- Assumes nothing.
 use mathlib.Core.Path.{_≡_, refl, ap, subst}
@@ -53,14 +53,14 @@ use Rattle.working.proofs.Stepped as R
 use Rattle.working.proofs.Stepped.Laws as R′
 use Rattle.working.proofs.Answer as N
 use Rattle.working.proofs.Answer.Laws as N′
-use Rattle.step.proofs.memory.step_in as step-in
-use Rattle.step.proofs.memory.step_in.Symbol as step-in-def
-use Rattle.step.proofs.memory.step_in.Symbol.{name as #step·memory·step-in}
-use Rattle.step.proofs.memory.step_in.Met as step-in-thm
-use Rattle.step.proofs.memory.step_via.Key.{name as #step·memory·step-via}
-use Rattle.step.proofs.memory.step_via as step-via
-use Rattle.step.proofs.memory.step_via.Statement as stated
-use Rattle.step.proofs.memory.step_via.Code as code
+use Rattle.step.proofs.step_in as step-in
+use Rattle.step.proofs.step_in.Symbol as step-in-def
+use Rattle.step.proofs.step_in.Symbol.{name as #step-in}
+use Rattle.step.proofs.step_in.Met as step-in-thm
+use Rattle.cases.proofs.memory.step_via.Key.{name as #step-via}
+use Rattle.cases.proofs.memory.step_via as step-via
+use Rattle.cases.proofs.memory.step_via.Statement as stated
+use Rattle.cases.proofs.memory.step_via.Code as code
 
 abbrev stayed : Stays (step-via.ended .signature .params) (step-via.ended .kept)
 stayed = (stay-none (λ _. T.the-row) yes, (stay-none-slice (0 ∷ []) tt (plain (λ _. u8)) yes, tt))
@@ -126,7 +126,7 @@ module _ {M : Type 1} (𝓤 : URA M) (H : Heap 𝓤) (A : Atoms 𝓤) (W : Given
       frame ! $ nothing ! $ move ! (1 ∷ 0 ∷ []) $ fjoin ! $ owned ! T.the-row (Is T.the-row) (LL.makes T.the-type T′.the-plain 𝓤 H A) h _ g $ fjoin ! $ frame ! $
       owned ! R.the-row (Is R.the-row) (LL.makes R.the-type R′.the-plain 𝓤 H A) r _ is $ done !
 
-  module _ (C : Calls 𝓤 H) (Λ : Loops 𝓤 H) (fm : FmC 𝓤 H (W .laws) C) (known : Triple 𝓤 (C #step·memory·step-in) (StepIn 𝓤 H A at-mem run)) where
+  module _ (C : Calls 𝓤 H) (Λ : Loops 𝓤 H) (fm : FmC 𝓤 H (W .laws) C) (known : Triple 𝓤 (C #step-in) (StepIn 𝓤 H A at-mem run)) where
     walk : Is T.the-row h (val h ∷ []) → Is (ShrSlice (named 0) κ u8) s (v ∷ []) → ent 𝓤 (onEntry 𝓤 H A step-via.signature (κ, tt) (q, tt) (h, (s, tt)) vals) (WpFn 𝓤 H C Λ code.function (val h ∷ v ∷ []) Post)
     unfolding partOf
     walk g p =
@@ -166,11 +166,11 @@ module _ {M : Type 1} (𝓤 : URA M) (H : Heap 𝓤) (A : Atoms 𝓤) (W : Given
         keep ! (0 ∷ 2 ∷ []) $ by ! (exits made g is′ (λ i. record { answer = e .0 i; section = e .1 i }))))))))))))))))))
 
 module _ {M : Type 1} (𝓤 : URA M) (H : Heap 𝓤) (A : Atoms 𝓤) (W : Given 𝓤 H A) (mem : Memory → SProp 𝓤) (run : Routine → Fun 𝓤) where
-  step-via-walks : (C : Calls 𝓤 H) (Λ : Loops 𝓤 H) → FmC 𝓤 H (W .laws) C → Triple 𝓤 (C #step·memory·step-in) (StepIn 𝓤 H A mem run) → Walks 𝓤 H A step-via.ended stayed (WpFn 𝓤 H C Λ code.function) (step-via.clauses 𝓤 H A mem run)
+  step-via-walks : (C : Calls 𝓤 H) (Λ : Loops 𝓤 H) → FmC 𝓤 H (W .laws) C → Triple 𝓤 (C #step-in) (StepIn 𝓤 H A mem run) → Walks 𝓤 H A step-via.ended stayed (WpFn 𝓤 H C Λ code.function) (step-via.clauses 𝓤 H A mem run)
   step-via-walks C Λ fm known = walked 𝓤 H A step-via.ended stayed (step-via.clauses 𝓤 H A mem run) (WpFn 𝓤 H C Λ code.function) (λ κs. (LL.vals T.the-type T′.the-laws, (slice-vals, tt))) (λ κs. (LL.tells T.the-type T′.the-laws, (shr-slice-tells (named 0) (κs .0) u8, tt)))
       (λ κs qs bounds a g are. via 𝓤 _ (fst∗ 𝓤 _ (emp 𝓤)) (walk 𝓤 H A W mem run (κs .0) (qs .0) (a .0) (a .1 .0) C Λ fm known (are .0) (are .1 .0)))
 
-step-via-meets : {M : Type 1} (𝓤 : URA M) (H : Heap 𝓤) (A : Atoms 𝓤) → Given 𝓤 H A → (mem : Memory → SProp 𝓤) (run : Routine → Fun 𝓤) (𝓣 : Tables 𝓤 H) → Triple 𝓤 (𝓣 .C #step·memory·step-in) (StepIn 𝓤 H A mem run)
+step-via-meets : {M : Type 1} (𝓤 : URA M) (H : Heap 𝓤) (A : Atoms 𝓤) → Given 𝓤 H A → (mem : Memory → SProp 𝓤) (run : Routine → Fun 𝓤) (𝓣 : Tables 𝓤 H) → Triple 𝓤 (𝓣 .C #step-in) (StepIn 𝓤 H A mem run)
     → Meets 𝓤 H A step-via.signature (WpFn 𝓤 H (𝓣 .C) (𝓣 .Λ) code.function) (step-via.spec 𝓤 H A mem run)
 step-via-meets 𝓤 H A W mem run 𝓣 known =
     walk-meets 𝓤 H A step-via.ended stayed W (goes-none 𝓤 H A W 1 (λ _. T.the-row) yes (λ κs x f. refl), (goes-none-slice 𝓤 H A W 1 (0 ∷ []) tt (plain (λ _. u8)) yes, tt)) (step-via.clauses 𝓤 H A mem run)
@@ -180,6 +180,6 @@ pub step-via-spec : {M : Type 1} → stated.statement M
 unfolding code.routine tablesOf
 step-via-spec 𝓤 H 𝓜 𝓖 𝓡 =
     entered 𝓤 H (tripleOf 𝓤 H (𝓖 .A) step-via.signature (step-via.spec 𝓤 H (𝓖 .A) (𝓜 .mem) (𝓡 .run)))
-    (tables 𝓤 H 𝓜 𝓡 code.env .C) (tables 𝓤 H 𝓜 𝓡 code.env .Λ) #step·memory·step-via code.function (code.unfolded 𝓤 H 𝓜 𝓡)
+    (tables 𝓤 H 𝓜 𝓡 code.env .C) (tables 𝓤 H 𝓜 𝓡 code.env .Λ) #step-via code.function (code.unfolded 𝓤 H 𝓜 𝓡)
     (step-via-meets 𝓤 H (𝓖 .A) (givenOf 𝓤 H 𝓜 𝓖) (𝓜 .mem) (𝓡 .run) (tablesOf 𝓤 H 𝓜 (tables 𝓤 H 𝓜 𝓡 code.env))
-    (cited 𝓤 H (StepIn 𝓤 H (𝓖 .A) (𝓜 .mem) (𝓡 .run)) 𝓜 𝓡 code.env #step·memory·step-in step-in-def.routine code.calls-step·memory·step-in (step-in-thm.met 𝓤 H 𝓜 𝓖 𝓡)))
+    (cited 𝓤 H (StepIn 𝓤 H (𝓖 .A) (𝓜 .mem) (𝓡 .run)) 𝓜 𝓡 code.env #step-in step-in-def.routine code.calls-step·step-in (step-in-thm.met 𝓤 H 𝓜 𝓖 𝓡)))

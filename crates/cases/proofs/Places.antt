@@ -1,0 +1,26 @@
+-- The places of a section in figures, read one by one, are all of them. Assumes nothing.
+use Prim.Native.Nat.{_*_, _+_, _<_, suc, zero, ℕ}
+use Rattle.cases.specs.Figures.{placesAt, vehicleAt}
+use Rattle.working.specs.Sections.{unused}
+use Rattle.working.specs.declared.Vehicle.{Vehicle}
+use lib.ListN.{getD, length}
+use lib.Seq.{ext-getD}
+use mathlib.Core.List.{List}
+use mathlib.Core.Path.{_∙_, _≡_, ap, refl, sym}
+use native.Mathlib.Omega.{arith}
+
+place-at : (count k : ℕ) (figures : List ℕ) (at : ℕ) → k < count → getD (placesAt count figures at) k unused ≡ vehicleAt figures (at + k * 9)
+unfolding placesAt
+place-at zero k figures at h = absurd (omega arith)
+place-at (suc count) zero figures at h = ap (vehicleAt figures) (omega arith)
+place-at (suc count) (suc k) figures at h = place-at count k figures (at + 9) (omega arith) ∙ ap (vehicleAt figures) (omega arith)
+
+places-length : (count : ℕ) (figures : List ℕ) (at : ℕ) → length (placesAt count figures at) ≡ count
+unfolding placesAt
+places-length zero figures at = refl
+places-length (suc count) figures at = ap suc (places-length count figures (at + 9))
+
+pub all-places : (figures : List ℕ) (places : List Vehicle) → length places ≡ 24 → ((k : ℕ) → k < 24 → vehicleAt figures (k * 9) ≡ getD places k unused) → places ≡ placesAt 24 figures 0
+all-places figures places long each =
+    ext-getD unused places (placesAt 24 figures 0) (long ∙ sym (places-length 24 figures 0))
+    (λ k h. sym (each k (omega arith)) ∙ sym (place-at 24 k figures 0 (omega arith) ∙ ap (vehicleAt figures) (omega arith)))

@@ -1,0 +1,20 @@
+-- `figures::movement_in` meets its contract: the tests are the definition's own, in its order.
+-- Assumes nothing.
+use Rattle.cases.proofs.figures.movement_in.Statement.{statement}
+use Rattle.cases.proofs.figures.movement_in.Tie as tie
+use borrow.Author.Tests.{eq-eqb, ne-eqb}
+
+returns : tie.Need-returns
+returns c = rw (eq-eqb _ _ (c .if1 .taken))
+
+returns-2 : tie.Need-returns-2
+returns-2 c = rw (ne-eqb _ _ (c .before .if1 .left), eq-eqb _ _ (c .if2 .taken))
+
+returns-3 : tie.Need-returns-3
+returns-3 c = rw (ne-eqb _ _ (c .before .before .if1 .left), ne-eqb _ _ (c .before .if2 .left), eq-eqb _ _ (c .if3 .taken))
+
+returns-4 : tie.Need-returns-4
+returns-4 c = rw (ne-eqb _ _ (c .before .before .if1 .left), ne-eqb _ _ (c .before .if2 .left), ne-eqb _ _ (c .if3 .left))
+
+pub movement-in-spec : {M : Type 1} → statement M
+movement-in-spec = tie.close (tie.spec returns returns-2 returns-3 returns-4)

@@ -1,0 +1,85 @@
+-- docs/CASES.md: what the figures of a section say, and those of an entry.
+use Prim.Native.Nat.{_*_, _+_, suc, zero, ℕ}
+use Rattle.working.specs.declared.Desk.{Desk}
+use Rattle.working.specs.declared.Entry.{Entry}
+use Rattle.working.specs.declared.Interval.the-variants.{Since, Stopped}
+use Rattle.working.specs.declared.Interval.{Interval}
+use Rattle.working.specs.declared.Movement.the-variants.{Open, Return, Through, Train}
+use Rattle.working.specs.declared.Movement.{Movement}
+use Rattle.working.specs.declared.Section.{Section}
+use Rattle.working.specs.declared.Vehicle.{Vehicle}
+use lib.Dec.{eqb}
+use lib.ListN.{getD}
+use mathlib.Core.Bool.{cond}
+use mathlib.Core.List.{List, [], _∷_}
+
+-- the byte at a place, and the number that it and the next stand for, "high byte first"
+abbrev pub byteAt : List ℕ → ℕ → ℕ
+byteAt figures at = getD figures at 0
+
+abbrev pub numberAt : List ℕ → ℕ → ℕ
+numberAt figures at = byteAt figures at * 256 + byteAt figures (at + 1)
+
+-- "kind 1 (0 none, 2 OPEN, 3 THROUGH, 4 RETURN, 5 TRAIN)"; none is the OPEN that asks for nothing
+abbrev pub movementOf : ℕ → ℕ → ℕ → Movement
+movementOf kind asked granted = cond (eqb kind 3) Through (cond (eqb kind 4) (Return asked granted) (cond (eqb kind 5) (Train asked granted) (Open asked)))
+
+-- the nine bytes of a place
+abbrev pub vehicleAt : List ℕ → ℕ → Vehicle
+vehicleAt figures at = record {
+  movement = movementOf (byteAt figures at) (byteAt figures (at + 1)) (byteAt figures (at + 2));
+  sender = byteAt figures (at + 3);
+  form = numberAt figures (at + 4);
+  heading = byteAt figures (at + 6);
+  met = eqb (byteAt figures (at + 7)) 1;
+  class = byteAt figures (at + 8);
+}
+
+-- so many places, one behind another
+unfoldable pub placesAt : ℕ → List ℕ → ℕ → List Vehicle
+placesAt zero figures at = []
+placesAt (suc count) figures at = vehicleAt figures at ∷ placesAt count figures (at + 9)
+
+-- "interval running 1 (0 or 1), its minute 2"
+abbrev pub intervalOf : ℕ → ℕ → Interval
+intervalOf running minute = cond (eqb running 1) (Since minute) Stopped
+
+-- the thirteen bytes of a desk
+abbrev pub deskAt : List ℕ → ℕ → Desk
+deskAt figures at = record {
+  clock = numberAt figures at;
+  last = numberAt figures (at + 2);
+  sent = byteAt figures (at + 4);
+  interval = intervalOf (byteAt figures (at + 5)) (numberAt figures (at + 6));
+  out = eqb (byteAt figures (at + 8)) 1;
+  guest = byteAt figures (at + 9);
+  asked = byteAt figures (at + 10);
+  holds = byteAt figures (at + 11);
+  owes = byteAt figures (at + 12);
+}
+
+-- the 248 bytes of a section
+abbrev pub sectionIn : List ℕ → Section
+sectionIn figures = record {
+  vehicles = placesAt 24 figures 0;
+  len = byteAt figures 216;
+  force = eqb (byteAt figures 217) 1;
+  refused = numberAt figures 218 * 65536 + numberAt figures 220;
+  a = deskAt figures 222;
+  b = deskAt figures 235;
+}
+
+-- "an entry of 12 bytes (map 1, kind 1, station 1, time 2, view 1, class 1, asked 1, granted 1, sender 1, number 2)"
+abbrev pub entryIn : List ℕ → Entry
+entryIn head = record {
+  map = byteAt head 0;
+  kind = byteAt head 1;
+  station = byteAt head 2;
+  time = numberAt head 3;
+  view = byteAt head 5;
+  class = byteAt head 6;
+  asked = byteAt head 7;
+  granted = byteAt head 8;
+  sender = byteAt head 9;
+  number = numberAt head 10;
+}

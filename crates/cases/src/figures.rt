@@ -1,0 +1,260 @@
+// A section in figures: the 248 bytes of docs/CASES.md.
+ghost use Prim.Native.Nat.{_*_, _+_, _≤_};
+ghost use Rattle.cases.specs.Figures.{deskAt, entryIn, intervalOf, movementOf, numberAt, placesAt, sectionIn, vehicleAt};
+ghost use lib.ListN.{length};
+ghost use mathlib.Core.Path.{_≡_};
+use crate::input::number;
+use crate::text::put_bytes;
+use working::Desk;
+use working::Entry;
+use working::Interval;
+use working::Movement;
+use working::Section;
+use working::Vehicle;
+
+// Where the figures behind the places begin: vehicles present, in force, refused, and the two desks.
+const PRESENT: usize = 216;
+
+const FORCE: usize = 217;
+
+const REFUSED: usize = 218;
+
+const DESK_A: usize = 222;
+
+const DESK_B: usize = 235;
+
+// The number at a place, high byte first.
+fn number_at(figures: &[u8], at: usize) -> u16
+    requires { ⌜ at + 2 ≤ length (now figures) ⌝ }
+    ensures { λ r. ⌜ r ≡ numberAt (now (figures .entry)) at ⌝ }
+{
+    number(figures[at], figures[at + 1])
+}
+
+// What a vehicle left on: kind 0, the unused place, is the OPEN that asks for nothing.
+fn movement_in(kind: u8, asked: u8, granted: u8) -> Movement
+    ensures { λ r. ⌜ r ≡ movementOf kind asked granted ⌝ }
+{
+    if kind == 3 {
+        return Movement::Through;
+    }
+    if kind == 4 {
+        return Movement::Return { asked, granted };
+    }
+    if kind == 5 {
+        return Movement::Train { asked, granted };
+    }
+    Movement::Open { asked }
+}
+
+// The nine bytes of a place.
+fn vehicle_in(figures: &[u8], at: usize) -> Vehicle
+    requires { ⌜ at + 9 ≤ length (now figures) ⌝ }
+    ensures { λ r. ⌜ r ≡ vehicleAt (now (figures .entry)) at ⌝ }
+{
+    Vehicle {
+        movement: movement_in(figures[at], figures[at + 1], figures[at + 2]),
+        sender: figures[at + 3],
+        form: number_at(figures, at + 4),
+        heading: figures[at + 6],
+        met: figures[at + 7] == 1,
+        class: figures[at + 8],
+    }
+}
+
+// The 24 places.
+fn vehicles_in(figures: &[u8]) -> [Vehicle; 24]
+    requires { ⌜ 248 ≤ length (now figures) ⌝ }
+    ensures { λ r. ⌜ r ≡ placesAt 24 (now (figures .entry)) 0 ⌝ }
+{
+    let mut places = [Vehicle::unused(); 24];
+    let mut i = 0;
+    while i < Section::PLACES {
+        places[i] = vehicle_in(figures, i * 9);
+        i += 1;
+    }
+    places
+}
+
+fn interval_in(running: u8, minute: u16) -> Interval
+    ensures { λ r. ⌜ r ≡ intervalOf running minute ⌝ }
+{
+    if running == 1 {
+        Interval::Since(minute)
+    } else {
+        Interval::Stopped
+    }
+}
+
+// The thirteen bytes of a desk.
+fn desk_in(figures: &[u8], at: usize) -> Desk
+    requires { ⌜ at + 13 ≤ length (now figures) ⌝ }
+    ensures { λ r. ⌜ r ≡ deskAt (now (figures .entry)) at ⌝ }
+{
+    Desk {
+        clock: number_at(figures, at),
+        last: number_at(figures, at + 2),
+        sent: figures[at + 4],
+        interval: interval_in(figures[at + 5], number_at(figures, at + 6)),
+        out: figures[at + 8] == 1,
+        guest: figures[at + 9],
+        asked: figures[at + 10],
+        holds: figures[at + 11],
+        owes: figures[at + 12],
+    }
+}
+
+// The count of refused entries, four bytes.
+fn refused_in(figures: &[u8]) -> u32
+    requires { ⌜ 248 ≤ length (now figures) ⌝ }
+    ensures { λ r. ⌜ r ≡ numberAt (now (figures .entry)) 218 * 65536 + numberAt (now (figures .entry)) 220 ⌝ }
+{
+    let high = number_at(figures, REFUSED);
+    let low = number_at(figures, REFUSED + 2);
+    (high as u32) * 65536 + low as u32
+}
+
+// The section that the figures say, well made or not.
+pub(crate) fn section_in(figures: &[u8]) -> Section
+    requires { ⌜ 248 ≤ length (now figures) ⌝ }
+    ensures { λ r. ⌜ r ≡ sectionIn (now (figures .entry)) ⌝ }
+{
+    Section {
+        vehicles: vehicles_in(figures),
+        len: figures[PRESENT] as usize,
+        force: figures[FORCE] == 1,
+        refused: refused_in(figures),
+        a: desk_in(figures, DESK_A),
+        b: desk_in(figures, DESK_B),
+    }
+}
+
+// An entry's map and fields, absent ones too.
+pub(crate) fn entry_in(head: [u8; 16]) -> Entry
+    ensures { λ r. ⌜ r ≡ entryIn head ⌝ }
+{
+    Entry {
+        map: head[0],
+        kind: head[1],
+        station: head[2],
+        time: number(head[3], head[4]),
+        view: head[5],
+        class: head[6],
+        asked: head[7],
+        granted: head[8],
+        sender: head[9],
+        number: number(head[10], head[11]),
+    }
+}
+
+fn one_if(holds: bool) -> u8 {
+    if holds { 1 } else { 0 }
+}
+
+// The first three bytes of a place.
+fn movement_figures(movement: Movement) -> [u8; 3] {
+    match movement {
+        Movement::Open { asked } => [2, asked, 0],
+        Movement::Through => [3, 0, 0],
+        Movement::Return { asked, granted } => [4, asked, granted],
+        Movement::Train { asked, granted } => [5, asked, granted],
+    }
+}
+
+// Whether a place with an OPEN is the unused one: zero in every figure.
+fn is_unused(asked: u8, v: Vehicle) -> bool {
+    let unsent = (v.sender == 0) & (v.form == 0) & (v.heading == 0);
+    (asked == 0) & unsent & !v.met & (v.class == 0)
+}
+
+// A vehicle's place; the unused one has kind 0.
+fn vehicle_figures(v: Vehicle) -> [u8; 9] {
+    let movement = v.movement;
+    let left_on = movement_figures(movement);
+    let unused = (left_on[0] == 2) & is_unused(left_on[1], v);
+    [
+        if unused { 0 } else { left_on[0] },
+        left_on[1],
+        left_on[2],
+        v.sender,
+        (v.form / 256) as u8,
+        (v.form % 256) as u8,
+        v.heading,
+        one_if(v.met),
+        v.class,
+    ]
+}
+
+// Whether the interval is running, and its minute.
+fn interval_figures(interval: Interval) -> [u8; 3] {
+    match interval {
+        Interval::Stopped => [0, 0, 0],
+        Interval::Since(minute) => [1, (minute / 256) as u8, (minute % 256) as u8],
+    }
+}
+
+fn desk_figures(desk: Desk) -> [u8; 13] {
+    let interval = desk.interval;
+    let running = interval_figures(interval);
+    [
+        (desk.clock / 256) as u8,
+        (desk.clock % 256) as u8,
+        (desk.last / 256) as u8,
+        (desk.last % 256) as u8,
+        desk.sent,
+        running[0],
+        running[1],
+        running[2],
+        one_if(desk.out),
+        desk.guest,
+        desk.asked,
+        desk.holds,
+        desk.owes,
+    ]
+}
+
+// Vehicles present, in force, and the count of refused entries.
+fn count_figures(s: Section) -> [u8; 6] {
+    let refused = s.refused;
+    [
+        (s.len % 256) as u8,
+        one_if(s.force),
+        (refused / 16777216) as u8,
+        (refused / 65536 % 256) as u8,
+        (refused / 256 % 256) as u8,
+        (refused % 256) as u8,
+    ]
+}
+
+// The 24 places at the front of the figures; the place behind them.
+fn put_vehicles(figures: &mut [u8], s: Section) -> usize {
+    let places = s.vehicles;
+    let mut at = 0;
+    let mut i = 0;
+    while i < Section::PLACES {
+        at = put_bytes(figures, at, &vehicle_figures(places[i]));
+        i += 1;
+    }
+    at
+}
+
+// The section's figures, well made or not.
+pub(crate) fn put_section(figures: &mut [u8], s: Section) {
+    let a = s.a;
+    let b = s.b;
+    let at = put_vehicles(figures, s);
+    let at = put_bytes(figures, at, &count_figures(s));
+    let at = put_bytes(figures, at, &desk_figures(a));
+    put_bytes(figures, at, &desk_figures(b));
+}
+
+// The digest of a section's figures.
+pub(crate) fn digest(figures: &[u8]) -> u64 {
+    let mut sum: u64 = 0;
+    let mut i = 0;
+    while i < figures.len() {
+        sum = (sum * 31 + figures[i] as u64) % 4294967296;
+        i += 1;
+    }
+    sum
+}

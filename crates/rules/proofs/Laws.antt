@@ -1,26 +1,20 @@
--- Two laws of a scan, which stops at a test that holds and goes on past one that does not; 7 and 9, which every act is put to first; and a departure that is allowed has room, since the tests that every departure is put to last have passed.
+-- Two laws of a scan, which stops at a test that holds and goes on past one that does not; the same of 7 and 9, which every act is put to first; and a departure that is allowed has room, since the tests that every departure is put to last have passed.
 -- Assumes nothing.
-use Prim.Native.Nat.{_<_, _≤_, suc, zero, ℕ}
-use Rattle.rules.specs.Rules.{Room}
+use Prim.Native.Nat.{suc, zero, ℕ}
+use Rattle.rules.specs.Rules.{Room, stationTests}
 use Rattle.working.proofs.Tests.{NoneHolds, none-holds}
 use Rattle.working.specs.Reasons.{departTests}
 use Rattle.working.specs.Refusals.{firstOf}
-use Rattle.working.specs.Steps.{planOf}
-use Rattle.working.specs.declared.Act.the-variants.{Opens, Passes, Receives, Returns, Runs}
-use Rattle.working.specs.declared.Act.{Act}
 use Rattle.working.specs.declared.Desk.{Desk}
-use Rattle.working.specs.declared.Plan.the-variants.{Refuse}
 use Rattle.working.specs.declared.Refusal.the-variants.{BeforeClock, NotInForce}
 use Rattle.working.specs.declared.Refusal.{Refusal}
-use Rattle.working.specs.declared.Station.{Station}
-use Rattle.working.specs.declared.Vehicle.{Vehicle}
 use Rattle.working.specs.declared.Verdict.the-variants.{Allowed, Refused}
 use Rattle.working.specs.declared.Verdict.{Verdict}
-use borrow.Author.Tests.{le-ltb, leb-false, lt-ltb}
+use borrow.Author.Tests.{leb-false}
 use lib.Dec.{ltb}
 use lib.ListN.{drop}
 use mathlib.Core.Bool.{Bool, false, not, true}
-use mathlib.Core.List.{List, [], _∷_}
+use mathlib.Core.List.{List, [], _++_, _∷_}
 use mathlib.Core.Path.{_≡_, refl, sym}
 
 -- the tests left of a scan say what the whole list says
@@ -37,28 +31,20 @@ stops l holds = rw holds at (l .says)
 pub goes-on : {test : Bool} {why : Refusal} {later : List (Bool × Refusal)} {whole : Verdict} → Left ((test, why) ∷ later) whole → test ≡ false → Left later whole
 goes-on l fails = record { says = rw fails at (l .says) }
 
--- in force, and not before the desk's clock, 7 and 9 are behind
-pub on-time : (d : Desk) (time : ℕ) {later : List (Bool × Refusal)} → d .clock ≤ time → Left later (firstOf ((not true, NotInForce) ∷ (ltb time (d .clock), BeforeClock) ∷ later))
-on-time d time h = goes-on (record { says = refl }) (le-ltb _ _ h)
+-- 7 and 9 stand in front of every act's tests: where one of them holds it says what they all say, and where none does the later ones do
+module _ (force : Bool) (d : Desk) (time : ℕ) (later : List (Bool × Refusal)) where
+  pub first-stops : {why : Refusal} → firstOf (stationTests force d time) ≡ Refused why → Refused why ≡ firstOf (stationTests force d time ++ later)
+  first-stops = by-two (not force) (ltb time (d .clock))
+    where
+      by-two : (seven nine : Bool) {why : Refusal} → firstOf ((seven, NotInForce) ∷ (nine, BeforeClock) ∷ []) ≡ Refused why → Refused why ≡ firstOf ((seven, NotInForce) ∷ (nine, BeforeClock) ∷ later)
+      by-two true nine h = sym h
+      by-two false true h = sym h
+      by-two false false h = cc
 
-pub in-force : (force : Bool) → not force ≡ false → force ≡ true
-in-force true h = refl
-in-force false h = sym h
-
--- every act is put to them first
-pub not-in-force : (act : Act) (x : Station) (force : Bool) (d : Desk) (time : ℕ) (v : Vehicle) → not force ≡ true → Refuse NotInForce ≡ planOf act x force d time v
-not-in-force (Opens view class asked) x force d time v h = rw h
-not-in-force (Passes view) x force d time v h = rw h
-not-in-force (Returns asked granted) x force d time v h = rw h
-not-in-force (Runs view asked granted) x force d time v h = rw h
-not-in-force (Receives sender form) x force d time v h = rw h
-
-pub before-clock : (act : Act) (x : Station) (force : Bool) (d : Desk) (time : ℕ) (v : Vehicle) → not force ≡ false → time < d .clock → Refuse BeforeClock ≡ planOf act x force d time v
-before-clock (Opens view class asked) x force d time v h early = rw (h, lt-ltb _ _ early)
-before-clock (Passes view) x force d time v h early = rw (h, lt-ltb _ _ early)
-before-clock (Returns asked granted) x force d time v h early = rw (h, lt-ltb _ _ early)
-before-clock (Runs view asked granted) x force d time v h early = rw (h, lt-ltb _ _ early)
-before-clock (Receives sender form) x force d time v h early = rw (h, lt-ltb _ _ early)
+  pub first-passed : firstOf (stationTests force d time) ≡ Allowed → Left later (firstOf (stationTests force d time ++ later))
+  first-passed h =
+      let fails : NoneHolds (stationTests force d time) = none-holds (stationTests force d time) h in
+      goes-on (goes-on (record { says = refl }) (fails .0)) (fails .1 .0)
 
 none-later : (n : ℕ) (tests : List (Bool × Refusal)) → NoneHolds tests → NoneHolds (drop n tests)
 none-later zero tests h = h

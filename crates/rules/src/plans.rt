@@ -1,11 +1,9 @@
-// What each kind comes to, in force and not before the desk's clock: a refusal, or the desk after it with what leaves. No departure reads the nearest vehicle.
-ghost use Prim.Native.Nat.{_≤_};
+// What each kind comes to: a refusal, or the desk after it with what leaves. No departure reads the nearest vehicle.
 ghost use Rattle.rules.specs.Rules.{openPlan};
 ghost use Rattle.working.specs.Steps.{planOf};
 ghost use Rattle.working.specs.declared.Act.the-variants.{Receives, Returns, Runs};
 ghost use Rattle.working.specs.declared.Station.{Station};
 ghost use Rattle.working.specs.declared.Vehicle.{Vehicle};
-ghost use mathlib.Core.Bool.{true};
 ghost use mathlib.Core.Path.{_≡_};
 use crate::desks::arrive_desk;
 use crate::desks::departed_desk;
@@ -22,7 +20,6 @@ use working::Act;
 use working::Desk;
 use working::Movement;
 use working::Plan;
-use working::Refusal;
 use working::Speed;
 use working::Station;
 use working::Vehicle;
@@ -31,6 +28,7 @@ use working::View;
 
 // An OPEN or a THROUGH, with what tells the two apart: out, what the vehicle leaves on, its class and its forms.
 fn open_plan(
+    force: bool,
     d: Desk,
     time: u16,
     view: View,
@@ -39,10 +37,9 @@ fn open_plan(
     class: u8,
     forms: u16,
 ) -> Plan
-    requires { ⌜ d .clock ≤ time ⌝ }
-    ensures { λ r. ⌜ r ≡ openPlan d time view out movement class forms ⌝ }
+    ensures { λ r. ⌜ r ≡ openPlan force d time view out movement class forms ⌝ }
 {
-    let verdict = open_verdict(d, time);
+    let verdict = open_verdict(force, d, time);
     match verdict {
         Verdict::Refused(why) => Plan::Refuse(why),
         Verdict::Allowed => Plan::Depart {
@@ -55,11 +52,10 @@ fn open_plan(
     }
 }
 
-fn return_plan(at: Station, d: Desk, time: u16, asked: u8, granted: u8) -> Plan
-    requires { ⌜ d .clock ≤ time ⌝ }
-    ensures { λ r. ⌜ ((v : Vehicle) → r ≡ planOf (Returns asked granted) at true d time v) ⌝ }
+fn return_plan(at: Station, force: bool, d: Desk, time: u16, asked: u8, granted: u8) -> Plan
+    ensures { λ r. ⌜ ((v : Vehicle) → r ≡ planOf (Returns asked granted) at force d time v) ⌝ }
 {
-    let verdict = return_verdict(d, time, granted);
+    let verdict = return_verdict(force, d, time, granted);
     match verdict {
         Verdict::Refused(why) => Plan::Refuse(why),
         Verdict::Allowed => Plan::Depart {
@@ -75,11 +71,18 @@ fn return_plan(at: Station, d: Desk, time: u16, asked: u8, granted: u8) -> Plan
     }
 }
 
-fn train_plan(at: Station, d: Desk, time: u16, view: View, asked: u8, granted: u8) -> Plan
-    requires { ⌜ d .clock ≤ time ⌝ }
-    ensures { λ r. ⌜ ((v : Vehicle) → r ≡ planOf (Runs view asked granted) at true d time v) ⌝ }
+fn train_plan(
+    at: Station,
+    force: bool,
+    d: Desk,
+    time: u16,
+    view: View,
+    asked: u8,
+    granted: u8,
+) -> Plan
+    ensures { λ r. ⌜ ((v : Vehicle) → r ≡ planOf (Runs view asked granted) at force d time v) ⌝ }
 {
-    let verdict = train_verdict(d, time, granted);
+    let verdict = train_verdict(force, d, time, granted);
     match verdict {
         Verdict::Refused(why) => Plan::Refuse(why),
         Verdict::Allowed => {
@@ -100,16 +103,16 @@ fn train_plan(at: Station, d: Desk, time: u16, view: View, asked: u8, granted: u
 
 fn receive_plan(
     at: Station,
+    force: bool,
     d: Desk,
     time: u16,
     sender: Station,
     form: u16,
     nearest: Vehicle,
 ) -> Plan
-    requires { ⌜ d .clock ≤ time ⌝ }
-    ensures { λ r. ⌜ r ≡ planOf (Receives sender form) at true d time nearest ⌝ }
+    ensures { λ r. ⌜ r ≡ planOf (Receives sender form) at force d time nearest ⌝ }
 {
-    let verdict = receive_verdict(at, d, time, sender, form, nearest);
+    let verdict = receive_verdict(at, force, d, time, sender, form, nearest);
     match verdict {
         Verdict::Refused(why) => Plan::Refuse(why),
         Verdict::Allowed => Plan::Arrive {
@@ -118,31 +121,25 @@ fn receive_plan(
     }
 }
 
-// What an act of station `at` comes to, in force or not, from its desk and the vehicle nearest it. Every act is put to 7 and 9 first.
+// What an act of station `at` comes to, in force or not, from its desk and the vehicle nearest it.
 pub fn plan(act: Act, at: Station, force: bool, d: Desk, time: u16, nearest: Vehicle) -> Plan
     ensures { λ r. ⌜ r ≡ planOf act at force d time nearest ⌝ }
 {
-    if !force {
-        return Plan::Refuse(Refusal::NotInForce);
-    }
-    if time < d.clock {
-        return Plan::Refuse(Refusal::BeforeClock);
-    }
     match act {
         Act::Opens { view, class, asked } => {
             let movement = Movement::Open { asked: asked };
-            open_plan(d, time, view, true, movement, class, 7)
+            open_plan(force, d, time, view, true, movement, class, 7)
         }
         Act::Passes { view } => {
             let class = Vehicle::LIGHT_ENGINE;
-            open_plan(d, time, view, d.out, Movement::Through, class, 1)
+            open_plan(force, d, time, view, d.out, Movement::Through, class, 1)
         }
-        Act::Returns { asked, granted } => return_plan(at, d, time, asked, granted),
+        Act::Returns { asked, granted } => return_plan(at, force, d, time, asked, granted),
         Act::Runs {
             view,
             asked,
             granted,
-        } => train_plan(at, d, time, view, asked, granted),
-        Act::Receives { sender, form } => receive_plan(at, d, time, sender, form, nearest),
+        } => train_plan(at, force, d, time, view, asked, granted),
+        Act::Receives { sender, form } => receive_plan(at, force, d, time, sender, form, nearest),
     }
 }

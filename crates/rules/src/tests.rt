@@ -1,9 +1,7 @@
-// What each kind is refused for, in force and not before the desk's clock: `plan` puts every act to 7 and 9 first. A function puts document 01's tests in
-// rising order, and the first that holds is given.
-ghost use Prim.Native.Nat.{_≤_};
+// What each kind is refused for. A function puts document 01's tests in rising order, and the first that holds is given.
+ghost use Rattle.rules.specs.Rules.{stationTests};
 ghost use Rattle.working.specs.Reasons.{departTests, isUnder, mayEnter, openTests, receiveTests, returnTests, trainTests};
 ghost use Rattle.working.specs.Refusals.{firstOf};
-ghost use mathlib.Core.Bool.{true};
 ghost use mathlib.Core.Path.{_≡_};
 use section::is_named;
 use section::is_opener;
@@ -42,11 +40,26 @@ fn departure_verdict(d: Desk, time: u16) -> Verdict
     Verdict::Allowed
 }
 
-// OPEN and THROUGH.
-pub(crate) fn open_verdict(d: Desk, time: u16) -> Verdict
-    requires { ⌜ d .clock ≤ time ⌝ }
-    ensures { λ r. ⌜ r ≡ firstOf (openTests true d time) ⌝ }
+// 7 and 9, which every act of a station is put to first.
+fn station_verdict(force: bool, d: Desk, time: u16) -> Verdict
+    ensures { λ r. ⌜ r ≡ firstOf (stationTests force d time) ⌝ }
 {
+    if !force {
+        return Verdict::Refused(Refusal::NotInForce);
+    }
+    if time < d.clock {
+        return Verdict::Refused(Refusal::BeforeClock);
+    }
+    Verdict::Allowed
+}
+
+// OPEN and THROUGH.
+pub(crate) fn open_verdict(force: bool, d: Desk, time: u16) -> Verdict
+    ensures { λ r. ⌜ r ≡ firstOf (openTests force d time) ⌝ }
+{
+    if let Verdict::Refused(why) = station_verdict(force, d, time) {
+        return Verdict::Refused(why);
+    }
     if d.out {
         return Verdict::Refused(Refusal::OpenerAway);
     }
@@ -62,10 +75,12 @@ pub(crate) fn open_verdict(d: Desk, time: u16) -> Verdict
     departure_verdict(d, time)
 }
 
-pub(crate) fn return_verdict(d: Desk, time: u16, granted: u8) -> Verdict
-    requires { ⌜ d .clock ≤ time ⌝ }
-    ensures { λ r. ⌜ r ≡ firstOf (returnTests true d time granted) ⌝ }
+pub(crate) fn return_verdict(force: bool, d: Desk, time: u16, granted: u8) -> Verdict
+    ensures { λ r. ⌜ r ≡ firstOf (returnTests force d time granted) ⌝ }
 {
+    if let Verdict::Refused(why) = station_verdict(force, d, time) {
+        return Verdict::Refused(why);
+    }
     if 0 < d.holds {
         return Verdict::Refused(Refusal::HoldsLineClear);
     }
@@ -78,10 +93,12 @@ pub(crate) fn return_verdict(d: Desk, time: u16, granted: u8) -> Verdict
     departure_verdict(d, time)
 }
 
-pub(crate) fn train_verdict(d: Desk, time: u16, granted: u8) -> Verdict
-    requires { ⌜ d .clock ≤ time ⌝ }
-    ensures { λ r. ⌜ r ≡ firstOf (trainTests true d time granted) ⌝ }
+pub(crate) fn train_verdict(force: bool, d: Desk, time: u16, granted: u8) -> Verdict
+    ensures { λ r. ⌜ r ≡ firstOf (trainTests force d time granted) ⌝ }
 {
+    if let Verdict::Refused(why) = station_verdict(force, d, time) {
+        return Verdict::Refused(why);
+    }
     if d.holds == 0 {
         return Verdict::Refused(Refusal::NoLineClear);
     }
@@ -107,15 +124,18 @@ fn may_enter(at: Station, v: Vehicle) -> bool
 
 pub(crate) fn receive_verdict(
     at: Station,
+    force: bool,
     d: Desk,
     time: u16,
     sender: Station,
     form: u16,
     nearest: Vehicle,
 ) -> Verdict
-    requires { ⌜ d .clock ≤ time ⌝ }
-    ensures { λ r. ⌜ r ≡ firstOf (receiveTests at true d time sender form nearest) ⌝ }
+    ensures { λ r. ⌜ r ≡ firstOf (receiveTests at force d time sender form nearest) ⌝ }
 {
+    if let Verdict::Refused(why) = station_verdict(force, d, time) {
+        return Verdict::Refused(why);
+    }
     if !is_named(sender, form, nearest) {
         return Verdict::Refused(Refusal::NotNearest);
     }

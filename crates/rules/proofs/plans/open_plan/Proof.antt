@@ -5,7 +5,6 @@ use Rattle.rules.proofs.plans.open_plan.Statement.{statement}
 use Rattle.rules.proofs.plans.open_plan.Tie as tie
 use Rattle.working.specs.Reasons.{openTests}
 use borrow.Author.Needs.{needs}
-use mathlib.Core.Bool.{true}
 use mathlib.Core.Path.{_∙_, refl, sym}
 
 open-verdict-requires : tie.Need-open-verdict-requires
@@ -20,7 +19,7 @@ enum-told c = search needs
 departed-desk-requires : tie.Need-departed-desk-requires
 departed-desk-requires c κs =
     let a = c .before .before .before .args in
-    room 6 (openTests true (a .d) (a .time)) (a .d) (a .time) refl (sym (c .before .before .open-verdict .ensures) ∙ c .enum-told .given .1)
+    room 6 (openTests (a .force) (a .d) (a .time)) (a .d) (a .time) refl (sym (c .before .before .open-verdict .ensures) ∙ c .enum-told .given .1)
 
 open-speed-requires : tie.Need-open-speed-requires
 open-speed-requires c κs = search needs

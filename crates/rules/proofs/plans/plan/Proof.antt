@@ -1,24 +1,8 @@
--- `rules::plan` meets its contract: 7 and 9 are the first tests of every act, and behind them each act has a function that is proved equal to its case of the definition.
+-- `rules::plan` meets its contract: each act has a function that is proved equal to its case of the definition.
 -- Assumes nothing.
-use Rattle.rules.proofs.Laws.{before-clock, in-force, not-in-force}
 use Rattle.rules.proofs.plans.plan.Statement.{statement}
 use Rattle.rules.proofs.plans.plan.Tie as tie
 use borrow.Author.Needs.{needs}
-use mathlib.Core.Bool.{true}
-use mathlib.Core.Path.{_≡_}
-
-returns : tie.Need-returns
-returns c =
-    let a = c .before .args in
-    not-in-force (a .act) (a .at) (a .force) (a .d) (a .time) (a .nearest) (c .if1 .taken)
-
-returns-2 : tie.Need-returns-2
-returns-2 c =
-    let a = c .before .before .before .args in
-    before-clock (a .act) (a .at) (a .force) (a .d) (a .time) (a .nearest) (c .before .before .if1 .left) (c .if2 .taken)
-
-forced : (c : tie.Else1) → c .before .args .force ≡ true
-forced c = in-force _ (c .if1 .left)
 
 enum-known-act : tie.Need-enum-known-act
 enum-known-act c = search needs
@@ -50,37 +34,25 @@ enum-known-act-5 c = search needs
 receive-plan-requires : tie.Need-receive-plan-requires
 receive-plan-requires c κs = search needs
 
+returns : tie.Need-returns
+returns c = rw (c .before .before .act .given .1) (c .open-plan .ensures)
+
+returns-2 : tie.Need-returns-2
+returns-2 c = rw (c .before .before .act2 .given .1) (c .open-plan2 .ensures)
+
 returns-3 : tie.Need-returns-3
-returns-3 c =
-    let e = c .before .before .before .before .before .before in
-    rw (forced e, c .before .before .act .given .1) (c .open-plan .ensures)
+returns-3 c = rw (c .before .before .act3 .given .1) (c .return-plan .ensures (c .before .before .before .before .args .nearest))
 
 returns-4 : tie.Need-returns-4
-returns-4 c =
-    let e = c .before .before .before .before .before .before in
-    rw (forced e, c .before .before .act2 .given .1) (c .open-plan2 .ensures)
+returns-4 c = rw (c .before .before .act4 .given .1) (c .train-plan .ensures (c .before .before .before .before .args .nearest))
 
 returns-5 : tie.Need-returns-5
-returns-5 c =
-    let e = c .before .before .before .before .before .before in
-    rw (forced e, c .before .before .act3 .given .1) (c .return-plan .ensures (e .before .args .nearest))
-
-returns-6 : tie.Need-returns-6
-returns-6 c =
-    let e = c .before .before .before .before .before .before in
-    rw (forced e, c .before .before .act4 .given .1) (c .train-plan .ensures (e .before .args .nearest))
-
-returns-7 : tie.Need-returns-7
-returns-7 c =
-    let e = c .before .before .before .before .before .before in
-    rw (forced e, c .before .before .act5 .given .1) (c .receive-plan .ensures)
+returns-5 c = rw (c .before .before .act5 .given .1) (c .receive-plan .ensures)
 
 pub plan-spec : {M : Type 1} → statement M
 plan-spec =
     tie.close
     (tie.spec
-    returns
-    returns-2
     enum-known-act
     open-plan-requires
     enum-known-act-2
@@ -91,8 +63,8 @@ plan-spec =
     train-plan-requires
     enum-known-act-5
     receive-plan-requires
+    returns
+    returns-2
     returns-3
     returns-4
-    returns-5
-    returns-6
-    returns-7)
+    returns-5)

@@ -5,7 +5,6 @@ use Rattle.rules.proofs.plans.return_plan.Statement.{statement}
 use Rattle.rules.proofs.plans.return_plan.Tie as tie
 use Rattle.working.specs.Reasons.{returnTests}
 use borrow.Author.Needs.{needs}
-use mathlib.Core.Bool.{true}
 use mathlib.Core.Path.{_∙_, refl, sym}
 
 return-verdict-requires : tie.Need-return-verdict-requires
@@ -20,7 +19,7 @@ enum-told c = search needs
 return-desk-requires : tie.Need-return-desk-requires
 return-desk-requires c κs =
     let a = c .before .before .before .args in
-    room 5 (returnTests true (a .d) (a .time) (a .granted)) (a .d) (a .time) refl (sym (c .before .before .return-verdict .ensures) ∙ c .enum-told .given .1)
+    room 5 (returnTests (a .force) (a .d) (a .time) (a .granted)) (a .d) (a .time) refl (sym (c .before .before .return-verdict .ensures) ∙ c .enum-told .given .1)
 
 clear-forms-requires : tie.Need-clear-forms-requires
 clear-forms-requires c κs = search needs

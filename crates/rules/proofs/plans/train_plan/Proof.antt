@@ -5,7 +5,6 @@ use Rattle.rules.proofs.plans.train_plan.Statement.{statement}
 use Rattle.rules.proofs.plans.train_plan.Tie as tie
 use Rattle.working.specs.Reasons.{trainTests}
 use borrow.Author.Needs.{needs}
-use mathlib.Core.Bool.{true}
 use mathlib.Core.Path.{_∙_, refl, sym}
 
 train-verdict-requires : tie.Need-train-verdict-requires
@@ -20,7 +19,7 @@ enum-told c = search needs
 train-desk-requires : tie.Need-train-desk-requires
 train-desk-requires c κs =
     let a = c .before .before .before .before .args in
-    room 4 (trainTests true (a .d) (a .time) (a .granted)) (a .d) (a .time) refl (sym (c .before .before .before .train-verdict .ensures) ∙ c .before .enum-told .given .1)
+    room 4 (trainTests (a .force) (a .d) (a .time) (a .granted)) (a .d) (a .time) refl (sym (c .before .before .before .train-verdict .ensures) ∙ c .before .enum-told .given .1)
 
 clear-forms-requires : tie.Need-clear-forms-requires
 clear-forms-requires c κs = search needs

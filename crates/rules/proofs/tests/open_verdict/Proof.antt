@@ -1,50 +1,86 @@
--- `tests::open_verdict` meets its contract: behind 7 and 9 the tests are the definition's, from the first to the last, and the first that holds says why.
+-- `tests::open_verdict` meets its contract: 7 and 9 come first, and behind them the tests are the definition's, from the first to the last; the first that holds says why.
 -- Assumes nothing.
 use Prim.Native.Nat.{ℕ}
-use Rattle.rules.proofs.Laws.{LeftAfter, goes-on, on-time, stops}
+use Rattle.rules.proofs.Laws.{LeftAfter, first-passed, first-stops, goes-on, stops}
 use Rattle.rules.proofs.tests.open_verdict.Statement.{statement}
 use Rattle.rules.proofs.tests.open_verdict.Tie as tie
 use Rattle.working.specs.Reasons.{openTests}
+use Rattle.working.specs.declared.Refusal.{Refusal}
 use borrow.Author.Needs.{needs}
 use borrow.Author.Tests.{le-ltb, lt-ltb}
-use mathlib.Core.Bool.{true}
-use mathlib.Core.Path.{_∙_}
+use lib.ListN.{drop}
+use mathlib.Core.Bool.{Bool}
+use mathlib.Core.List.{List}
+use mathlib.Core.Path.{_∙_, sym}
+
+abbrev tests : tie.Start → List (Bool × Refusal)
+tests c = openTests (c .args .force) (c .args .d) (c .args .time)
 
 abbrev From : ℕ → tie.Start → Type 0
-From n c = LeftAfter n (openTests true (c .args .d) (c .args .time))
+From n c = LeftAfter n (tests c)
 
-from-2 : (c : tie.Start) → From 2 c
-from-2 c = on-time (c .args .d) (c .args .time) (c .pre)
+station-verdict-requires : tie.Need-station-verdict-requires
+station-verdict-requires c κs = search needs
+
+enum-known-why : tie.Need-enum-known-why
+enum-known-why c = search needs
 
 returns : tie.Need-returns
-returns c = stops (from-2 (c .before)) (c .if1 .taken)
+returns c =
+    let told = c .before .before .before in
+    let a = told .before .args in
+    first-stops (a .force) (a .d) (a .time) (drop 2 (tests (told .before))) (sym (told .station-verdict .ensures) ∙ c .before .why .given .1)
 
-from-3 : (c : tie.Else1) → From 3 (c .before)
-from-3 c = goes-on (from-2 (c .before)) (c .if1 .left)
+enum-told : tie.Need-enum-told
+enum-told c = search needs
+
+from-2 : (c : tie.After-enum-told) → From 2 (c .before .before .before)
+from-2 c =
+    let told = c .before .before in
+    let a = told .before .args in
+    first-passed (a .force) (a .d) (a .time) _ (sym (told .station-verdict .ensures) ∙ c .enum-told .given .1)
 
 returns-2 : tie.Need-returns-2
-returns-2 c = stops (from-3 (c .before .before)) (lt-ltb _ _ (c .if2 .taken))
+returns-2 c = stops (from-2 (c .before)) (c .if1 .taken)
 
-from-4 : (c : tie.Else2) → From 4 (c .before .before .before)
-from-4 c = goes-on (from-3 (c .before .before)) (le-ltb _ _ (c .if2 .left))
+from-3 : (c : tie.Else1) → From 3 (c .before .before .before .before)
+from-3 c = goes-on (from-2 (c .before)) (c .if1 .left)
 
 returns-3 : tie.Need-returns-3
-returns-3 c = stops (from-4 (c .before .before)) (lt-ltb _ _ (c .if3 .taken))
+returns-3 c = stops (from-3 (c .before .before)) (lt-ltb _ _ (c .if2 .taken))
 
-from-5 : (c : tie.Else3) → From 5 (c .before .before .before .before .before)
-from-5 c = goes-on (from-4 (c .before .before)) (le-ltb _ _ (c .if3 .left))
+from-4 : (c : tie.Else2) → From 4 (c .before .before .before .before .before .before)
+from-4 c = goes-on (from-3 (c .before .before)) (le-ltb _ _ (c .if2 .left))
 
 returns-4 : tie.Need-returns-4
-returns-4 c = stops (from-5 (c .before .before)) (lt-ltb _ _ (c .if4 .taken))
+returns-4 c = stops (from-4 (c .before .before)) (lt-ltb _ _ (c .if3 .taken))
 
-from-6 : (c : tie.Else4) → From 6 (c .before .before .before .before .before .before .before)
+from-5 : (c : tie.Else3) → From 5 (c .before .before .before .before .before .before .before .before)
+from-5 c = goes-on (from-4 (c .before .before)) (le-ltb _ _ (c .if3 .left))
+
+returns-5 : tie.Need-returns-5
+returns-5 c = stops (from-5 (c .before .before)) (lt-ltb _ _ (c .if4 .taken))
+
+from-6 : (c : tie.Else4) → From 6 (c .before .before .before .before .before .before .before .before .before .before)
 from-6 c = goes-on (from-5 (c .before .before)) (le-ltb _ _ (c .if4 .left))
 
 departure-verdict-requires : tie.Need-departure-verdict-requires
 departure-verdict-requires c κs = search needs
 
-returns-5 : tie.Need-returns-5
-returns-5 c = c .departure-verdict .ensures ∙ from-6 (c .before) .says
+returns-6 : tie.Need-returns-6
+returns-6 c = c .departure-verdict .ensures ∙ from-6 (c .before) .says
 
 pub open-verdict-spec : {M : Type 1} → statement M
-open-verdict-spec = tie.close (tie.spec returns returns-2 returns-3 returns-4 departure-verdict-requires returns-5)
+open-verdict-spec =
+    tie.close
+    (tie.spec
+    station-verdict-requires
+    enum-known-why
+    returns
+    enum-told
+    returns-2
+    returns-3
+    returns-4
+    returns-5
+    departure-verdict-requires
+    returns-6)

@@ -4,11 +4,13 @@ pub mod Consequences
 pub mod Corollaries
 pub mod Demand3
 pub mod Edges
+pub mod EntryTable
 pub mod Examples
 pub mod Fields
 pub mod Found
 pub mod Invariant
 pub mod Judged
+pub mod KindTable
 pub mod Kept
 pub mod Line
 pub mod Lists

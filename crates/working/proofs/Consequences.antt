@@ -265,8 +265,8 @@ todos (d ∷ l) = record { form = d .form; bytes = d .bytes } ∷ todos l
 abbrev returned : List ℕ → Answer → Done
 returned bytes answer = record { form = byValue; bytes = bytes; answer = answer }
 
-abbrev in-memory : List ℕ → Answer → Done
-in-memory bytes answer = record { form = inPlace; bytes = bytes; answer = answer }
+abbrev inMemory : List ℕ → Answer → Done
+inMemory bytes answer = record { form = inPlace; bytes = bytes; answer = answer }
 
 A-not-B : A ≡ B → ⊥
 A-not-B e = let z : _≡_ {A = ℕ} 0 1 = cc in omega arith
@@ -278,36 +278,36 @@ B-not-A e = let z : _≡_ {A = ℕ} 0 1 = cc in omega arith
 abbrev begins : List Done
 begins = returned begin plain ∷ []
 
-abbrev open-B : Done
-open-B = returned (0x3F ∷ 0x02 ∷ 0x02 ∷ 0x00 ∷ 0x00 ∷ 0x03 ∷ 0x02 ∷ 0x06 ∷ []) (Accepted 1 7 Walking)
+abbrev openB : Done
+openB = returned (0x3F ∷ 0x02 ∷ 0x02 ∷ 0x00 ∷ 0x00 ∷ 0x03 ∷ 0x02 ∷ 0x06 ∷ []) (Accepted 1 7 Walking)
 
-abbrev open-A : Done
-open-A = in-memory (0x3F ∷ 0x02 ∷ 0x01 ∷ 0x00 ∷ 0x00 ∷ 0x03 ∷ 0x04 ∷ 0x05 ∷ []) (Accepted 1 7 Walking)
+abbrev openA : Done
+openA = inMemory (0x3F ∷ 0x02 ∷ 0x01 ∷ 0x00 ∷ 0x00 ∷ 0x03 ∷ 0x04 ∷ 0x05 ∷ []) (Accepted 1 7 Walking)
 
-abbrev back-B : Done
-back-B = in-memory (0x87 ∷ 0x06 ∷ 0x02 ∷ 0x00 ∷ 0x02 ∷ 0x02 ∷ 0x00 ∷ 0x01 ∷ []) plain
+abbrev backB : Done
+backB = inMemory (0x87 ∷ 0x06 ∷ 0x02 ∷ 0x00 ∷ 0x02 ∷ 0x02 ∷ 0x00 ∷ 0x01 ∷ []) plain
 
-abbrev back-A : Done
-back-A = returned (0x87 ∷ 0x06 ∷ 0x01 ∷ 0x00 ∷ 0x01 ∷ 0x01 ∷ 0x00 ∷ 0x01 ∷ []) plain
+abbrev backA : Done
+backA = returned (0x87 ∷ 0x06 ∷ 0x01 ∷ 0x00 ∷ 0x01 ∷ 0x01 ∷ 0x00 ∷ 0x01 ∷ []) plain
 
-abbrev taken-back : List Todo
-taken-back = todos (begins ++ open-B ∷ open-A ∷ back-B ∷ back-A ∷ [])
+abbrev takenBack : List Todo
+takenBack = todos (begins ++ openB ∷ openA ∷ backB ∷ backA ∷ [])
 
 -- two receipts
-receipts-exchanged : Run fresh (begins ++ open-B ∷ open-A ∷ back-A ∷ back-B ∷ []) (after fresh taken-back)
+receipts-exchanged : Run fresh (begins ++ openB ∷ openA ∷ backA ∷ backB ∷ []) (after fresh takenBack)
 unfolding stepOf wellMade decode readAt judge mapFits rangesHold entryIn lengthOf entered padTo
 receipts-exchanged =
-    demand3 (runs fresh taken-back) .swap (begins ++ open-B ∷ open-A ∷ []) back-B back-A [] B A (Receives B 1) (Receives A 1) refl
+    demand3 (runs fresh takenBack) .swap (begins ++ openB ∷ openA ∷ []) backB backA [] B A (Receives B 1) (Receives A 1) refl
     (record { time = 2; entry = refl; accepted = refl })
     (record { time = 1; entry = refl; accepted = refl })
     B-not-A
     (λ r. false-true (r .0))
 
 -- two departures, with the receipts of both behind them
-departures-exchanged : Run fresh (begins ++ open-A ∷ open-B ∷ back-B ∷ back-A ∷ []) (after fresh taken-back)
+departures-exchanged : Run fresh (begins ++ openA ∷ openB ∷ backB ∷ backA ∷ []) (after fresh takenBack)
 unfolding stepOf wellMade decode readAt judge mapFits rangesHold entryIn lengthOf entered padTo
 departures-exchanged =
-    demand3 (runs fresh taken-back) .swap begins open-B open-A (back-B ∷ back-A ∷ []) B A (Opens Impaired 2 6) (Opens Impaired 4 5) refl
+    demand3 (runs fresh takenBack) .swap begins openB openA (backB ∷ backA ∷ []) B A (Opens Impaired 2 6) (Opens Impaired 4 5) refl
     (record { time = 0; entry = refl; accepted = refl })
     (record { time = 0; entry = refl; accepted = refl })
     B-not-A
@@ -315,43 +315,43 @@ departures-exchanged =
 
 -- behind no bytes, which are refused, A opens, holds two line clears and sends its first train. A's second train and B's receipt of the first are neighbours, and
 -- behind them come B's receipt of the second, bytes that are no entry, and a THROUGH of B.
-abbrev one-sent : List Done
-one-sent =
-    in-memory [] (Refused EndsInside)
+abbrev oneSent : List Done
+oneSent =
+    inMemory [] (Refused EndsInside)
     ∷ returned begin plain
-    ∷ in-memory (opens 1 0 1 2) (Accepted 1 7 (Kmh 15))
+    ∷ inMemory (opens 1 0 1 2) (Accepted 1 7 (Kmh 15))
     ∷ returned (receive 2 60 1 1) plain
-    ∷ in-memory (returns 2 61 2) (Accepted 1 180 Booked)
+    ∷ inMemory (returns 2 61 2) (Accepted 1 180 Booked)
     ∷ returned (receive 1 90 2 1) plain
-    ∷ in-memory (train 1 91) (Accepted 2 168 Booked)
+    ∷ inMemory (train 1 91) (Accepted 2 168 Booked)
     ∷ []
 
-abbrev second-sent : Done
-second-sent = returned (train 1 121) (Accepted 3 104 (Kmh 25))
+abbrev secondSent : Done
+secondSent = returned (train 1 121) (Accepted 3 104 (Kmh 25))
 
-abbrev first-taken : Done
-first-taken = in-memory (receive 2 115 1 2) plain
+abbrev firstTaken : Done
+firstTaken = inMemory (receive 2 115 1 2) plain
 
 abbrev behind : List Done
-behind = returned (receive 2 150 1 3) plain ∷ in-memory (0 ∷ []) (Refused UnknownKind) ∷ returned (through 2 0 155) (Accepted 2 1 (Kmh 15)) ∷ []
+behind = returned (receive 2 150 1 3) plain ∷ inMemory (0 ∷ []) (Refused UnknownKind) ∷ returned (through 2 0 155) (Accepted 2 1 (Kmh 15)) ∷ []
 
-abbrev sent-then-taken : List Todo
-sent-then-taken = todos (one-sent ++ second-sent ∷ first-taken ∷ behind)
+abbrev sentThenTaken : List Todo
+sentThenTaken = todos (oneSent ++ secondSent ∷ firstTaken ∷ behind)
 
-abbrev taken-then-sent : List Todo
-taken-then-sent = todos (one-sent ++ first-taken ∷ second-sent ∷ behind)
+abbrev takenThenSent : List Todo
+takenThenSent = todos (oneSent ++ firstTaken ∷ secondSent ∷ behind)
 
 -- a TRAIN and a RECEIVE, and the same two from the other order
-train-and-receipt-exchanged : Run fresh (one-sent ++ first-taken ∷ second-sent ∷ behind) (after fresh sent-then-taken)
-    × Run fresh (one-sent ++ second-sent ∷ first-taken ∷ behind) (after fresh taken-then-sent)
+train-and-receipt-exchanged : Run fresh (oneSent ++ firstTaken ∷ secondSent ∷ behind) (after fresh sentThenTaken)
+    × Run fresh (oneSent ++ secondSent ∷ firstTaken ∷ behind) (after fresh takenThenSent)
 unfolding stepOf wellMade decode readAt judge mapFits rangesHold entryIn lengthOf entered padTo
 train-and-receipt-exchanged = (
-  demand3 (runs fresh sent-then-taken) .swap one-sent second-sent first-taken behind A B (Runs Clear 0 0) (Receives A 2) refl
+  demand3 (runs fresh sentThenTaken) .swap oneSent secondSent firstTaken behind A B (Runs Clear 0 0) (Receives A 2) refl
       (record { time = 121; entry = refl; accepted = refl })
       (record { time = 115; entry = refl; accepted = refl })
       A-not-B
       (λ r. let e = r .1 in let z : _≡_ {A = ℕ} 2 3 = cc in omega arith),
-  demand3 (runs fresh taken-then-sent) .swap one-sent first-taken second-sent behind B A (Receives A 2) (Runs Clear 0 0) refl
+  demand3 (runs fresh takenThenSent) .swap oneSent firstTaken secondSent behind B A (Receives A 2) (Runs Clear 0 0) refl
       (record { time = 115; entry = refl; accepted = refl })
       (record { time = 121; entry = refl; accepted = refl })
       B-not-A
@@ -364,9 +364,9 @@ ended = working 2 (vehicle Through 2 2 1 false 1 ∷ []) (figures 121 3 2 (Since
 
 exchanged-ends :
     every
-    (sameSection (after fresh taken-back) (working 0 [] (figures 1 1 0 Stopped false 0 0 0 0) (figures 2 1 0 Stopped false 0 0 0 0))
-    ∷ sameSection (after fresh sent-then-taken) ended
-    ∷ sameSection (after fresh taken-then-sent) ended
+    (sameSection (after fresh takenBack) (working 0 [] (figures 1 1 0 Stopped false 0 0 0 0) (figures 2 1 0 Stopped false 0 0 0 0))
+    ∷ sameSection (after fresh sentThenTaken) ended
+    ∷ sameSection (after fresh takenThenSent) ended
     ∷ [])
     ≡ true
 unfolding stepOf wellMade decode readAt judge mapFits rangesHold entryIn lengthOf entered padTo

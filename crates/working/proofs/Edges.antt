@@ -35,16 +35,16 @@ abbrev pub after : Section → List (List ℕ) → Section
 after s [] = s
 after s (bytes ∷ l) = after (stepOf s bytes .section) l
 
-abbrev answersTo : List Edge → List Answer
+abbrev pub answersTo : List Edge → List Answer
 answersTo [] = []
 answersTo (r ∷ rows) = stepOf (r .before) (r .bytes) .answer ∷ answersTo rows
 
-abbrev expectedOf : List Edge → List Answer
+abbrev pub expectedOf : List Edge → List Answer
 expectedOf [] = []
 expectedOf (r ∷ rows) = r .expected ∷ expectedOf rows
 
 -- the rows, counted from n, that leave another section than the table has
-abbrev rowsLeavingAnother : ℕ → List Edge → List ℕ
+abbrev pub rowsLeavingAnother : ℕ → List Edge → List ℕ
 rowsLeavingAnother n [] = []
 rowsLeavingAnother n (r ∷ rows) =
     cond (sameSection (stepOf (r .before) (r .bytes) .section) (r .leaves)) (rowsLeavingAnother (suc n) rows) (n ∷ rowsLeavingAnother (suc n) rows)
@@ -77,11 +77,11 @@ met = after begun (opens 1 1 1 1 ∷ opens 2 1 1 1 ∷ meet 2 1 1 ∷ [])
 
 -- ---- the table
 
-abbrev row : Section → List ℕ → Answer → Section → Edge
+abbrev pub row : Section → List ℕ → Answer → Section → Edge
 row before bytes expected leaves = record { before = before; bytes = bytes; expected = expected; leaves = leaves }
 
 -- "A refusal adds 1 to the count and alters nothing else": of a section whose count is below its largest value
-abbrev refused : Section → List ℕ → Refusal → Edge
+abbrev pub refused : Section → List ℕ → Refusal → Edge
 refused s bytes why = row s bytes (Refused why) (record { vehicles = s .vehicles; len = s .len; force = s .force; refused = s .refused + 1; a = s .a; b = s .b })
 
 -- vehicles on the way, unmet: A's OPEN and THROUGH, A's TRAIN, and B's RETURN of a light engine

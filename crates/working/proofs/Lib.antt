@@ -5,12 +5,14 @@ pub mod Corollaries
 pub mod Counted
 pub mod Demand3
 pub mod Edges
+pub mod EntryTable
 pub mod Examples
 pub mod Fields
 pub mod FirstEntry
 pub mod Found
 pub mod Invariant
 pub mod Judged
+pub mod KindTable
 pub mod Kept
 pub mod Line
 pub mod Lists

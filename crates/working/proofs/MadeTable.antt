@@ -8,7 +8,7 @@ use Rattle.working.proofs.Literals.{figures, vehicle, withAsked, withCl
 use Rattle.working.specs.Events.{decode}
 use Rattle.working.specs.Entries.{lengthOf, readAt}
 use Rattle.working.specs.Refusals.{numberOf}
-use Rattle.working.specs.Sections.{freshDesk, numberAt, otherAt, padTo, unused}
+use Rattle.working.specs.Sections.{freshDesk, numberAt, otherAt, padTo}
 use Rattle.working.specs.Steps.{entered, stepOf}
 use Rattle.working.specs.WellMade.{wellMade}
 use Rattle.working.specs.declared.Answer.the-variants.{Accepted, Refused}
@@ -34,9 +34,9 @@ abbrev used : Desk
 used = figures 40 5 2 (Since 40) false 0 0 0 0
 
 -- in force, with these vehicles and this desk at station x; the other's desk is fresh
-abbrev in-force : Station → List Vehicle → Desk → Section
-in-force A line d = working 0 line d freshDesk
-in-force B line d = working 0 line freshDesk d
+abbrev inForce : Station → List Vehicle → Desk → Section
+inForce A line d = working 0 line d freshDesk
+inForce B line d = working 0 line freshDesk d
 
 -- not in force, with this desk at station x
 abbrev idle : Station → Desk → Section
@@ -51,16 +51,16 @@ abbrev engine : Station → ℕ → Vehicle
 engine x form = vehicle Through (numberAt x) form (numberAt (otherAt x)) false 1
 
 -- in force, with one vehicle of station x, well made but for that vehicle
-abbrev with-one : Station → Vehicle → Section
-with-one x v = in-force x (v ∷ []) used
+abbrev withOne : Station → Vehicle → Section
+withOne x v = inForce x (v ∷ []) used
 
 -- in force, with nothing present and this in one of the 24 unused places
-abbrev unused-holds : ℕ → Vehicle → Section
-unused-holds place v = record { vehicles = set (padTo 24 []) place v; len = 0; force = true; refused = 0; a = freshDesk; b = freshDesk }
+abbrev unusedHolds : ℕ → Vehicle → Section
+unusedHolds place v = record { vehicles = set (padTo 24 []) place v; len = 0; force = true; refused = 0; a = freshDesk; b = freshDesk }
 
 -- A1 to A12 and B1 to B12, from A to B
-abbrev full-line : List Vehicle
-full-line =
+abbrev fullLine : List Vehicle
+fullLine =
     engine A 12 ∷ engine A 11 ∷ engine A 10 ∷ engine A 9 ∷ engine A 8 ∷ engine A 7 ∷ engine A 6 ∷ engine A 5 ∷ engine A 4 ∷ engine A 3 ∷ engine A 2 ∷ engine A 1
     ∷ engine B 1 ∷ engine B 2 ∷ engine B 3 ∷ engine B 4 ∷ engine B 5 ∷ engine B 6 ∷ engine B 7 ∷ engine B 8 ∷ engine B 9 ∷ engine B 10 ∷ engine B 11 ∷ engine B 12 ∷ []
 
@@ -69,56 +69,56 @@ twelve = figures 330 12 12 (Since 330) false 0 0 0 0
 
 -- so many vehicles counted where 24 stand
 abbrev counted : ℕ → Section
-counted n = record { vehicles = full-line; len = n; force = true; refused = 0; a = twelve; b = twelve }
+counted n = record { vehicles = fullLine; len = n; force = true; refused = 0; a = twelve; b = twelve }
 
 -- ---- ill made
 
 -- what is the same for A and for B
-abbrev ill-at : Station → List Section
-ill-at x =
+abbrev illAt : Station → List Section
+illAt x =
     -- "last form number, 0 to 9,999"
-    in-force x [] (withLast 10000 used)
+    inForce x [] (withLast 10000 used)
     -- "sent: departures counted, 0 to 12"
-    ∷ in-force x [] (withSent 13 used)
+    ∷ inForce x [] (withSent 13 used)
     -- "guest: 0, or the class of the other station's opener standing here"
-    ∷ in-force x [] (withGuest 6 used)
+    ∷ inForce x [] (withGuest 6 used)
     -- asked, holds and owes, each "0 to 8"
-    ∷ in-force x [] (withAsked 9 used)
-    ∷ in-force x [] (withHolds 9 used)
-    ∷ in-force x [] (withOwes 9 used)
+    ∷ inForce x [] (withAsked 9 used)
+    ∷ inForce x [] (withHolds 9 used)
+    ∷ inForce x [] (withOwes 9 used)
     -- "a running interval is not later than the clock"
-    ∷ in-force x [] (withInterval (Since 41) used)
+    ∷ inForce x [] (withInterval (Since 41) used)
     -- "each sent is at least that station's vehicles present"
-    ∷ in-force x (engine x 5 ∷ []) (withSent 0 used)
-    ∷ in-force x (engine x 4 ∷ engine x 5 ∷ []) (withSent 1 used)
+    ∷ inForce x (engine x 5 ∷ []) (withSent 0 used)
+    ∷ inForce x (engine x 4 ∷ engine x 5 ∷ []) (withSent 1 used)
     -- "form numbers are 1 to the desk's last and differ among one sender's vehicles"
-    ∷ with-one x (engine x 0)
-    ∷ with-one x (engine x 6)
-    ∷ in-force x (engine x 5 ∷ engine x 5 ∷ []) used
-    ∷ in-force x (engine x 5 ∷ engine x 4 ∷ engine x 5 ∷ []) (withSent 3 used)
+    ∷ withOne x (engine x 0)
+    ∷ withOne x (engine x 6)
+    ∷ inForce x (engine x 5 ∷ engine x 5 ∷ []) used
+    ∷ inForce x (engine x 5 ∷ engine x 4 ∷ engine x 5 ∷ []) (withSent 3 used)
     -- "unmet vehicles head away from their sender"; a heading is a station
-    ∷ with-one x (vehicle Through (numberAt x) 5 (numberAt x) false 1)
-    ∷ with-one x (vehicle (Train 0 0) (numberAt x) 5 (numberAt x) false 0)
-    ∷ with-one x (vehicle Through (numberAt x) 5 0 false 1)
-    ∷ with-one x (vehicle Through (numberAt x) 5 3 false 1)
+    ∷ withOne x (vehicle Through (numberAt x) 5 (numberAt x) false 1)
+    ∷ withOne x (vehicle (Train 0 0) (numberAt x) 5 (numberAt x) false 0)
+    ∷ withOne x (vehicle Through (numberAt x) 5 0 false 1)
+    ∷ withOne x (vehicle Through (numberAt x) 5 3 false 1)
     -- "RETURN and TRAIN are unmet"
-    ∷ with-one x (vehicle (Return 0 0) (numberAt x) 5 (numberAt (otherAt x)) true 1)
-    ∷ with-one x (vehicle (Train 0 0) (numberAt x) 5 (numberAt (otherAt x)) true 0)
+    ∷ withOne x (vehicle (Return 0 0) (numberAt x) 5 (numberAt (otherAt x)) true 1)
+    ∷ withOne x (vehicle (Train 0 0) (numberAt x) 5 (numberAt (otherAt x)) true 0)
     -- "class is 1 to 5 on OPEN and RETURN, 1 on THROUGH, 0 on TRAIN"
-    ∷ with-one x (away x (Open 1) 0)
-    ∷ with-one x (away x (Open 1) 6)
-    ∷ with-one x (away x (Return 0 0) 0)
-    ∷ with-one x (away x (Return 0 0) 6)
-    ∷ with-one x (away x Through 0)
-    ∷ with-one x (away x Through 2)
-    ∷ with-one x (away x (Train 0 0) 1)
+    ∷ withOne x (away x (Open 1) 0)
+    ∷ withOne x (away x (Open 1) 6)
+    ∷ withOne x (away x (Return 0 0) 0)
+    ∷ withOne x (away x (Return 0 0) 6)
+    ∷ withOne x (away x Through 0)
+    ∷ withOne x (away x Through 2)
+    ∷ withOne x (away x (Train 0 0) 1)
     -- "OPEN has asked 1 to 8"; asked and granted are at most 8 on RETURN and TRAIN, 0 being none
-    ∷ with-one x (away x (Open 0) 1)
-    ∷ with-one x (away x (Open 9) 1)
-    ∷ with-one x (away x (Return 9 0) 1)
-    ∷ with-one x (away x (Return 0 9) 1)
-    ∷ with-one x (away x (Train 9 0) 0)
-    ∷ with-one x (away x (Train 0 9) 0)
+    ∷ withOne x (away x (Open 0) 1)
+    ∷ withOne x (away x (Open 9) 1)
+    ∷ withOne x (away x (Return 9 0) 1)
+    ∷ withOne x (away x (Return 0 9) 1)
+    ∷ withOne x (away x (Train 9 0) 0)
+    ∷ withOne x (away x (Train 0 9) 0)
     -- "not in force, all but the count is as fresh"
     ∷ idle x (withClock 1 freshDesk)
     ∷ idle x (withLast 1 freshDesk)
@@ -132,21 +132,21 @@ ill-at x =
     ∷ []
 
 -- "unused places are zero": each figure of an unused place, at one of the 24 places
-abbrev ill-unused : ℕ → List Section
-ill-unused place =
-    unused-holds place (vehicle (Open 1) 0 0 0 false 0)
-    ∷ unused-holds place (vehicle Through 0 0 0 false 0)
-    ∷ unused-holds place (vehicle (Return 0 0) 0 0 0 false 0)
-    ∷ unused-holds place (vehicle (Train 0 0) 0 0 0 false 0)
-    ∷ unused-holds place (vehicle (Open 0) 1 0 0 false 0)
-    ∷ unused-holds place (vehicle (Open 0) 0 1 0 false 0)
-    ∷ unused-holds place (vehicle (Open 0) 0 0 1 false 0)
-    ∷ unused-holds place (vehicle (Open 0) 0 0 0 true 0)
-    ∷ unused-holds place (vehicle (Open 0) 0 0 0 false 1)
+abbrev illUnused : ℕ → List Section
+illUnused place =
+    unusedHolds place (vehicle (Open 1) 0 0 0 false 0)
+    ∷ unusedHolds place (vehicle Through 0 0 0 false 0)
+    ∷ unusedHolds place (vehicle (Return 0 0) 0 0 0 false 0)
+    ∷ unusedHolds place (vehicle (Train 0 0) 0 0 0 false 0)
+    ∷ unusedHolds place (vehicle (Open 0) 1 0 0 false 0)
+    ∷ unusedHolds place (vehicle (Open 0) 0 1 0 false 0)
+    ∷ unusedHolds place (vehicle (Open 0) 0 0 1 false 0)
+    ∷ unusedHolds place (vehicle (Open 0) 0 0 0 true 0)
+    ∷ unusedHolds place (vehicle (Open 0) 0 0 0 false 1)
     ∷ []
 
-abbrev ill-made : List Section
-ill-made =
+abbrev illMade : List Section
+illMade =
     -- "up to 24 vehicles"
     counted 25
     -- "A's vehicles all stand nearer A than B's"
@@ -157,42 +157,42 @@ ill-made =
     ∷ working 0 (vehicle Through 3 5 2 false 1 ∷ []) used used
     -- an unused place behind those present
     ∷ counted 23
-    ∷ ill-unused 0 ++ ill-unused 23 ++ ill-at A ++ ill-at B
+    ∷ illUnused 0 ++ illUnused 23 ++ illAt A ++ illAt B
 
 -- ---- well made, at every limit
 
-abbrev well-at : Station → List Section
-well-at x =
+abbrev atLimitsOf : Station → List Section
+atLimitsOf x =
     -- every figure of a desk at its largest, and the interval at the clock
-    in-force x [] (figures 65535 9999 12 (Since 65535) true 5 8 8 8)
-    ∷ in-force x [] (withGuest 1 used)
-    ∷ in-force x [] (withInterval (Since 0) used)
-    ∷ in-force x [] (withInterval Stopped used)
-    ∷ in-force x [] (withOut true used)
+    inForce x [] (figures 65535 9999 12 (Since 65535) true 5 8 8 8)
+    ∷ inForce x [] (withGuest 1 used)
+    ∷ inForce x [] (withInterval (Since 0) used)
+    ∷ inForce x [] (withInterval Stopped used)
+    ∷ inForce x [] (withOut true used)
     -- sent at least the vehicles present
-    ∷ in-force x (engine x 5 ∷ []) (withSent 1 used)
-    ∷ in-force x (engine x 4 ∷ engine x 5 ∷ []) (withSent 2 used)
+    ∷ inForce x (engine x 5 ∷ []) (withSent 1 used)
+    ∷ inForce x (engine x 4 ∷ engine x 5 ∷ []) (withSent 2 used)
     -- form numbers from 1 to the desk's last
-    ∷ with-one x (engine x 1)
-    ∷ with-one x (engine x 5)
-    ∷ in-force x (engine x 1 ∷ engine x 9999 ∷ []) (withLast 9999 used)
+    ∷ withOne x (engine x 1)
+    ∷ withOne x (engine x 5)
+    ∷ inForce x (engine x 1 ∷ engine x 9999 ∷ []) (withLast 9999 used)
     -- met, OPEN and THROUGH head either way
-    ∷ with-one x (vehicle Through (numberAt x) 5 1 true 1)
-    ∷ with-one x (vehicle Through (numberAt x) 5 2 true 1)
-    ∷ with-one x (vehicle (Open 1) (numberAt x) 5 1 true 1)
-    ∷ with-one x (vehicle (Open 1) (numberAt x) 5 2 true 1)
+    ∷ withOne x (vehicle Through (numberAt x) 5 1 true 1)
+    ∷ withOne x (vehicle Through (numberAt x) 5 2 true 1)
+    ∷ withOne x (vehicle (Open 1) (numberAt x) 5 1 true 1)
+    ∷ withOne x (vehicle (Open 1) (numberAt x) 5 2 true 1)
     -- class, asked and granted at both ends
-    ∷ with-one x (away x (Open 1) 1)
-    ∷ with-one x (away x (Open 8) 5)
-    ∷ with-one x (away x Through 1)
-    ∷ with-one x (away x (Return 0 0) 1)
-    ∷ with-one x (away x (Return 8 8) 5)
-    ∷ with-one x (away x (Train 0 0) 0)
-    ∷ with-one x (away x (Train 8 8) 0)
+    ∷ withOne x (away x (Open 1) 1)
+    ∷ withOne x (away x (Open 8) 5)
+    ∷ withOne x (away x Through 1)
+    ∷ withOne x (away x (Return 0 0) 1)
+    ∷ withOne x (away x (Return 8 8) 5)
+    ∷ withOne x (away x (Train 0 0) 0)
+    ∷ withOne x (away x (Train 8 8) 0)
     ∷ []
 
-abbrev well-made : List Section
-well-made =
+abbrev atLimits : List Section
+atLimits =
     -- "not in force, all but the count is as fresh"; the count at both ends
     idle A freshDesk
     ∷ record { vehicles = padTo 24 []; len = 0; force = false; refused = 4294967295; a = freshDesk; b = freshDesk }
@@ -202,34 +202,34 @@ well-made =
     ∷ counted 24
     -- form numbers differ among one sender's vehicles only
     ∷ working 0 (engine A 5 ∷ engine B 5 ∷ []) used used
-    ∷ well-at A ++ well-at B
+    ∷ atLimitsOf A ++ atLimitsOf B
 
 -- ---- the tables hold
 
-abbrev numberIn : Answer → ℕ
+abbrev pub numberIn : Answer → ℕ
 numberIn (Refused why) = numberOf why
 numberIn (Accepted form forms speed) = 0
 
 -- the rows, counted from n, at which no bytes give another answer than this
-abbrev rows-not : ℕ → ℕ → List Section → List ℕ
-rows-not expected n [] = []
-rows-not expected n (s ∷ l) = cond (eqb (numberIn (stepOf s [] .answer)) expected) (rows-not expected (suc n) l) (n ∷ rows-not expected (suc n) l)
+abbrev rowsNot : ℕ → ℕ → List Section → List ℕ
+rowsNot expected n [] = []
+rowsNot expected n (s ∷ l) = cond (eqb (numberIn (stepOf s [] .answer)) expected) (rowsNot expected (suc n) l) (n ∷ rowsNot expected (suc n) l)
 
-abbrev after-each : List Section → List Section
-after-each [] = []
-after-each (s ∷ l) = stepOf s [] .section ∷ after-each l
+abbrev afterEach : List Section → List Section
+afterEach [] = []
+afterEach (s ∷ l) = stepOf s [] .section ∷ afterEach l
 
 -- each of 106 sections is answered 5
-pub all-five : (rows-not 5 1 ill-made ≡ []) × (length ill-made ≡ 106)
+pub all-five : (rowsNot 5 1 illMade ≡ []) × (length illMade ≡ 106)
 unfolding stepOf wellMade decode readAt lengthOf entered padTo
 all-five = (refl, refl)
 
 -- "5 and 23: nothing" is altered
-pub five-alters-nothing : after-each ill-made ≡ ill-made
+pub five-alters-nothing : afterEach illMade ≡ illMade
 unfolding stepOf wellMade padTo
 five-alters-nothing = refl
 
 -- each of 48 sections is answered as no bytes are: 1, and not 5
-pub none-five : (rows-not 1 1 well-made ≡ []) × (length well-made ≡ 48)
+pub none-five : (rowsNot 1 1 atLimits ≡ []) × (length atLimits ≡ 48)
 unfolding stepOf wellMade decode readAt lengthOf entered padTo
 none-five = (refl, refl)

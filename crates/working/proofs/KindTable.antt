@@ -1,0 +1,242 @@
+-- What each kind is refused for, in rising order, and what it does to every figure of the section, document 01's sentences row by row for either station.
+-- The sections are written out: the desk that decides has a figure at each place that the kind must keep, and the other desk is full of figures that no entry of this
+-- station may alter. A row has the section found, the bytes, the answer, and the section left, compared in every figure.
+-- Assumes nothing.
+use Prim.Native.Nat.{_+_, ℕ}
+use Rattle.working.proofs.Edges.{Edge, answersTo, expectedOf, refused, row, rowsLeavingAnother}
+use Rattle.working.proofs.Literals.{begin, figures, meet, opensAs, plain, receive, resume, vehicle, withClock, withOwes, working}
+use Rattle.working.specs.Entries.{entryIn, judge, lengthOf, mapFits, rangesHold, readAt}
+use Rattle.working.specs.Events.{decode}
+use Rattle.working.specs.Sections.{fresh, freshDesk, numberAt, otherAt, padTo}
+use Rattle.working.specs.Steps.{entered, stepOf}
+use Rattle.working.specs.WellMade.{wellMade}
+use Rattle.working.specs.declared.Answer.the-variants.{Accepted}
+use Rattle.working.specs.declared.Desk.{Desk}
+use Rattle.working.specs.declared.Interval.the-variants.{Since, Stopped}
+use Rattle.working.specs.declared.Movement.the-variants.{Open, Return, Through, Train}
+use Rattle.working.specs.declared.Movement.{Movement}
+use Rattle.working.specs.declared.Refusal.the-variants.{AlreadyInForce, BeforeClock, FormsUsed, GrantNotAllowed, GuestHere, HoldsLineClear, IntervalRunning, MayNotEnter, MayNotMeet, NoGuest, NoLineClear, NotInForce, NotNearest, OpenerAway, OwesLineClear, TwelveSent, VehiclePresent}
+use Rattle.working.specs.declared.Section.{Section}
+use Rattle.working.specs.declared.Speed.the-variants.{Booked, Kmh, Walking}
+use Rattle.working.specs.declared.Speed.{Speed}
+use Rattle.working.specs.declared.Station.the-variants.{A, B}
+use Rattle.working.specs.declared.Station.{Station}
+use Rattle.working.specs.declared.Vehicle.{Vehicle}
+use mathlib.Core.Bool.{Bool, false, true}
+use mathlib.Core.List.{List, [], _++_, _∷_}
+use mathlib.Core.Path.{_≡_, refl}
+
+-- ---- what the rows are made of
+
+-- the other station's desk
+abbrev theirs : Desk
+theirs = figures 50 3 1 (Since 50) true 2 6 7 8
+
+abbrev backwards : List Vehicle → List Vehicle → List Vehicle
+backwards [] l = l
+backwards (v ∷ r) l = backwards r (v ∷ l)
+
+-- in force, four refused, this station's desk and the other's, and the vehicles from this station's end on
+abbrev at : Station → List Vehicle → Desk → Section
+at A line mine = working 4 line mine theirs
+at B line mine = working 4 (backwards line []) theirs mine
+
+-- a vehicle of this station, and one of the other, unmet
+abbrev own : Station → Movement → ℕ → ℕ → Vehicle
+own x movement form class = vehicle movement (numberAt x) form (numberAt (otherAt x)) false class
+
+abbrev coming : Station → Movement → ℕ → Vehicle
+coming x movement class = vehicle movement (numberAt (otherAt x)) 3 (numberAt x) false class
+
+-- entries at minute 100
+abbrev opening : Station → ℕ → ℕ → ℕ → List ℕ
+opening x view class asked = opensAs (numberAt x) 100 view class asked
+
+abbrev passing : Station → ℕ → List ℕ
+passing x view = 0x1F ∷ 3 ∷ numberAt x ∷ 0 ∷ 100 ∷ view ∷ 1 ∷ []
+
+abbrev returning : Station → List ℕ
+returning x = 0x07 ∷ 4 ∷ numberAt x ∷ 0 ∷ 100 ∷ []
+
+abbrev returningWith : Station → ℕ → ℕ → List ℕ
+returningWith x asked granted = 0x67 ∷ 4 ∷ numberAt x ∷ 0 ∷ 100 ∷ asked ∷ granted ∷ []
+
+abbrev running : Station → ℕ → List ℕ
+running x view = 0x0F ∷ 5 ∷ numberAt x ∷ 0 ∷ 100 ∷ view ∷ []
+
+abbrev runningWith : Station → ℕ → ℕ → List ℕ
+runningWith x asked granted = 0x6F ∷ 5 ∷ numberAt x ∷ 0 ∷ 100 ∷ 1 ∷ asked ∷ granted ∷ []
+
+-- ---- refusals, in rising order: a desk with every reason against the kind loses them one by one
+
+-- OPEN, THROUGH: 9, 10, 11, 12, 13, 17, 18, 19
+abbrev openRefused : Station → List ℕ → List Edge
+openRefused x bytes =
+    refused fresh bytes NotInForce
+    ∷ refused (at x [] (figures 101 9999 12 (Since 101) true 5 8 8 8)) bytes BeforeClock
+    ∷ refused (at x [] (figures 100 9999 12 (Since 71) true 5 8 8 8)) bytes OpenerAway
+    ∷ refused (at x [] (figures 100 9999 12 (Since 71) false 5 8 1 8)) bytes HoldsLineClear
+    ∷ refused (at x [] (figures 100 9999 12 (Since 71) false 5 8 0 1)) bytes OwesLineClear
+    ∷ refused (at x [] (figures 100 9999 12 (Since 71) false 1 8 0 0)) bytes GuestHere
+    ∷ refused (at x [] (figures 100 9999 12 (Since 71) false 0 8 0 0)) bytes TwelveSent
+    ∷ refused (at x [] (figures 100 9999 11 (Since 71) false 0 8 0 0)) bytes FormsUsed
+    ∷ refused (at x [] (figures 100 9998 11 (Since 71) false 0 8 0 0)) bytes IntervalRunning
+    ∷ []
+
+-- RETURN: 9, 11, 14, 16, 17, 18, 19; out set and owes above 0 are no reason
+abbrev returnRefused : Station → List Edge
+returnRefused x =
+    refused fresh (returningWith x 1 3) NotInForce
+    ∷ refused (at x [] (figures 101 9999 12 (Since 101) true 0 2 1 8)) (returningWith x 1 3) BeforeClock
+    ∷ refused (at x [] (figures 100 9999 12 (Since 71) true 0 2 1 8)) (returningWith x 1 3) HoldsLineClear
+    ∷ refused (at x [] (figures 100 9999 12 (Since 71) true 0 2 0 8)) (returningWith x 1 3) NoGuest
+    ∷ refused (at x [] (figures 100 9999 12 (Since 71) true 1 2 0 8)) (returningWith x 1 3) GrantNotAllowed
+    ∷ refused (at x [] (figures 100 9999 12 (Since 71) true 1 3 0 8)) (returningWith x 1 3) TwelveSent
+    ∷ refused (at x [] (figures 100 9999 11 (Since 71) true 1 3 0 8)) (returningWith x 1 3) FormsUsed
+    ∷ refused (at x [] (figures 100 9998 11 (Since 71) true 1 3 0 8)) (returningWith x 1 3) IntervalRunning
+    ∷ []
+
+-- TRAIN: 9, 15, 16 for a grant above asked, 16 for a grant while holds stays above 0, 17, 18, 19; out set, owes above 0 and a guest are no reason
+abbrev trainRefused : Station → List Edge
+trainRefused x =
+    refused fresh (runningWith x 1 3) NotInForce
+    ∷ refused (at x [] (figures 101 9999 12 (Since 101) true 1 2 0 8)) (runningWith x 1 3) BeforeClock
+    ∷ refused (at x [] (figures 100 9999 12 (Since 71) true 1 2 0 8)) (runningWith x 1 3) NoLineClear
+    ∷ refused (at x [] (figures 100 9999 12 (Since 71) true 1 2 1 8)) (runningWith x 1 3) GrantNotAllowed
+    ∷ refused (at x [] (figures 100 9999 12 (Since 71) true 1 3 2 8)) (runningWith x 1 3) GrantNotAllowed
+    ∷ refused (at x [] (figures 100 9999 12 (Since 71) true 1 3 1 8)) (runningWith x 1 3) TwelveSent
+    ∷ refused (at x [] (figures 100 9999 11 (Since 71) true 1 3 1 8)) (runningWith x 1 3) FormsUsed
+    ∷ refused (at x [] (figures 100 9998 11 (Since 71) true 1 3 1 8)) (runningWith x 1 3) IntervalRunning
+    ∷ []
+
+-- a desk that may receive
+abbrev mine : Desk
+mine = figures 90 7 3 (Since 90) true 3 6 2 7
+
+-- RECEIVE: 9; 20 none, or the nearest is not the one named; 21 S's own fast one, S's own met and heading away, O's met and heading away
+abbrev receiveRefused : Station → List Edge
+receiveRefused x =
+    refused fresh (receive (numberAt x) 100 (numberAt x) 7) NotInForce
+    ∷ refused (at x [] (withClock 101 mine)) (receive (numberAt x) 100 (numberAt x) 7) BeforeClock
+    ∷ refused (at x [] mine) (receive (numberAt x) 100 (numberAt x) 7) NotNearest
+    ∷ refused (at x (own x Through 6 1 ∷ own x Through 7 1 ∷ []) mine) (receive (numberAt x) 100 (numberAt x) 7) NotNearest
+    ∷ refused (at x (own x (Train 0 0) 6 0 ∷ []) mine) (receive (numberAt x) 100 (numberAt x) 7) NotNearest
+    ∷ refused (at x (own x Through 3 1 ∷ coming x Through 1 ∷ []) mine) (receive (numberAt x) 100 (numberAt (otherAt x)) 3) NotNearest
+    ∷ refused (at x (own x (Train 0 0) 7 0 ∷ []) mine) (receive (numberAt x) 100 (numberAt x) 7) MayNotEnter
+    ∷ refused (at x (own x (Return 0 0) 7 1 ∷ []) mine) (receive (numberAt x) 100 (numberAt x) 7) MayNotEnter
+    ∷ refused (at x (vehicle Through (numberAt x) 7 (numberAt (otherAt x)) true 1 ∷ []) mine) (receive (numberAt x) 100 (numberAt x) 7) MayNotEnter
+    ∷ refused (at x (vehicle Through (numberAt (otherAt x)) 3 (numberAt (otherAt x)) true 1 ∷ []) mine) (receive (numberAt x) 100 (numberAt (otherAt x)) 3) MayNotEnter
+    ∷ []
+
+-- ---- what an accepted entry does
+
+-- a departure of S: one more sent, the next form number, the interval from that minute, the vehicle at S's end; a vehicle of O is on the line already
+abbrev leaves : Station → Desk → List ℕ → ℕ → Speed → Movement → ℕ → Desk → Edge
+leaves x before bytes forms speed movement class after =
+    row (at x (coming x Through 1 ∷ []) before) bytes (Accepted 8 forms speed) (at x (own x movement 8 class ∷ coming x Through 1 ∷ []) after)
+
+-- "8 T/G 602 (UP), 16 T/H 602 (DN)"
+abbrev way : Station → ℕ
+way A = 8
+way B = 16
+
+abbrev departures : Station → List Edge
+departures x =
+    -- OPEN: 15, 10 or walking pace by view; asked at S stays
+    leaves x (figures 90 7 2 (Since 70) false 0 5 0 0) (opening x 1 4 3) 7 (Kmh 15) (Open 3) 4 (figures 100 8 3 (Since 100) true 0 5 0 0)
+    ∷ leaves x (figures 90 7 2 Stopped false 0 5 0 0) (opening x 2 5 8) 7 (Kmh 10) (Open 8) 5 (figures 100 8 3 (Since 100) true 0 5 0 0)
+    ∷ leaves x (figures 90 7 2 Stopped false 0 5 0 0) (opening x 3 1 1) 7 Walking (Open 1) 1 (figures 100 8 3 (Since 100) true 0 5 0 0)
+    -- THROUGH: nothing more
+    ∷ leaves x (figures 90 7 2 (Since 70) false 0 5 0 0) (passing x 1) 1 (Kmh 15) Through 1 (figures 100 8 3 (Since 100) false 0 5 0 0)
+    ∷ leaves x (figures 90 7 2 Stopped false 0 5 0 0) (passing x 2) 1 (Kmh 10) Through 1 (figures 100 8 3 (Since 100) false 0 5 0 0)
+    ∷ leaves x (figures 90 7 2 Stopped false 0 5 0 0) (passing x 3) 1 Walking Through 1 (figures 100 8 3 (Since 100) false 0 5 0 0)
+    -- RETURN: guest and asked cleared; granted above 0 becomes owes, else owes stays; out stays; booked, with 2 if asked and 4 if granted
+    ∷ leaves x (figures 90 7 2 (Since 70) true 4 6 0 7) (returning x) (way x + 160) Booked (Return 0 0) 4 (figures 100 8 3 (Since 100) true 0 0 0 7)
+    ∷ leaves x (figures 90 7 2 Stopped true 5 6 0 7) (returningWith x 5 1) (way x + 166) Booked (Return 5 1) 5 (figures 100 8 3 (Since 100) true 0 0 0 1)
+    -- TRAIN: booked if sent was 0, else 25 in view 1 and 10 otherwise; without a grant asked and owes stay
+    ∷ leaves x (figures 90 7 0 (Since 70) true 3 6 3 7) (running x 1) (way x + 160) Booked (Train 0 0) 0 (figures 100 8 1 (Since 100) true 3 6 2 7)
+    ∷ leaves x (figures 90 7 0 Stopped true 3 6 3 7) (running x 3) (way x + 160) Booked (Train 0 0) 0 (figures 100 8 1 (Since 100) true 3 6 2 7)
+    ∷ leaves x (figures 90 7 2 Stopped true 3 6 3 7) (running x 1) (way x + 96) (Kmh 25) (Train 0 0) 0 (figures 100 8 3 (Since 100) true 3 6 2 7)
+    ∷ leaves x (figures 90 7 2 Stopped true 3 6 3 7) (running x 2) (way x + 96) (Kmh 10) (Train 0 0) 0 (figures 100 8 3 (Since 100) true 3 6 2 7)
+    ∷ leaves x (figures 90 7 2 Stopped true 3 6 3 7) (running x 3) (way x + 96) (Kmh 10) (Train 0 0) 0 (figures 100 8 3 (Since 100) true 3 6 2 7)
+    -- a grant becomes owes, not more on top of it, and clears asked, whatever is left of it
+    ∷ leaves x (figures 90 7 2 Stopped true 3 6 1 7) (runningWith x 2 1) (way x + 102) (Kmh 25) (Train 2 1) 0 (figures 100 8 3 (Since 100) true 3 0 0 1)
+    ∷ []
+
+-- a receipt at S of the vehicle nearest it; another stands behind
+abbrev arrives : Station → Vehicle → ℕ → ℕ → Desk → Edge
+arrives x v sender number after = row (at x (v ∷ coming x Through 1 ∷ []) mine) (receive (numberAt x) 100 sender number) plain (at x (coming x Through 1 ∷ []) after)
+
+abbrev comes : Station → Desk → Vehicle → Desk → Edge
+comes x before v after = row (at x (v ∷ []) before) (receive (numberAt x) 100 (numberAt (otherAt x)) 3) plain (at x [] after)
+
+abbrev receipts : Station → List Edge
+receipts x =
+    -- S's own OPEN or THROUGH, unmet, or met and heading to S: sent falls by 1, OPEN clears out
+    arrives x (own x (Open 1) 7 1) (numberAt x) 7 (figures 100 7 2 Stopped false 3 6 2 7)
+    ∷ arrives x (own x Through 7 1) (numberAt x) 7 (figures 100 7 2 Stopped true 3 6 2 7)
+    ∷ arrives x (vehicle (Open 1) (numberAt x) 7 (numberAt x) true 1) (numberAt x) 7 (figures 100 7 2 Stopped false 3 6 2 7)
+    -- one from O: sent becomes 0; OPEN makes guest and asked
+    ∷ comes x mine (coming x (Open 8) 4) (figures 100 7 0 Stopped true 4 8 2 7)
+    ∷ comes x mine (vehicle (Open 1) (numberAt (otherAt x)) 3 (numberAt x) true 5) (figures 100 7 0 Stopped true 5 1 2 7)
+    -- THROUGH: nothing more
+    ∷ comes x mine (coming x Through 1) (figures 100 7 0 Stopped true 3 6 2 7)
+    -- RETURN clears out, sets holds to granted, and asked if above 0
+    ∷ comes x mine (coming x (Return 0 0) 1) (figures 100 7 0 Stopped false 3 6 0 7)
+    ∷ comes x mine (coming x (Return 1 5) 2) (figures 100 7 0 Stopped false 3 1 5 7)
+    -- TRAIN lowers owes by 1, not below 0, sets holds to granted, and asked if above 0
+    ∷ comes x mine (coming x (Train 0 0) 0) (figures 100 7 0 Stopped true 3 6 0 6)
+    ∷ comes x mine (coming x (Train 1 5) 0) (figures 100 7 0 Stopped true 3 1 5 6)
+    ∷ comes x (withOwes 0 mine) (coming x (Train 0 0) 0) (figures 100 7 0 Stopped true 3 6 0 0)
+    ∷ []
+
+-- ---- whoever declares, and a MEET
+
+-- A2 and A1, then B1: A1 and B1 are the pair; A1 is named
+abbrev line : Movement → ℕ → Bool → Movement → ℕ → Bool → List Vehicle
+line m to met n head turned = vehicle Through 1 2 2 false 1 ∷ vehicle m 1 1 to met 1 ∷ vehicle n 2 1 head turned 1 ∷ []
+
+abbrev meeting : List Vehicle → Section
+meeting l = working 4 l mine theirs
+
+abbrev declared : List Edge
+declared =
+    -- BEGIN: 6; all but the count as fresh
+    refused (at A [] mine) begin AlreadyInForce
+    ∷ row (record { vehicles = padTo 24 []; len = 0; force = false; refused = 4; a = freshDesk; b = freshDesk }) begin plain (working 4 [] freshDesk freshDesk)
+    -- RESUME: 7, 8; as fresh but the count
+    ∷ refused fresh resume NotInForce
+    ∷ refused (at A (own A Through 7 1 ∷ []) mine) resume VehiclePresent
+    ∷ row (at A [] mine) resume plain (record { vehicles = padTo 24 []; len = 0; force = false; refused = 4; a = freshDesk; b = freshDesk })
+    -- MEET: 7; 22 unless the named one is present and heads to B, its neighbour towards B heads to A, and both are OPEN or THROUGH
+    ∷ refused fresh (meet 1 1 1) NotInForce
+    ∷ refused (meeting []) (meet 1 1 1) MayNotMeet
+    ∷ refused (meeting (line Through 2 false Through 1 false)) (meet 1 1 3) MayNotMeet
+    ∷ refused (meeting (line Through 2 false Through 1 false)) (meet 1 1 2) MayNotMeet
+    ∷ refused (meeting (line Through 2 false Through 1 false)) (meet 1 2 1) MayNotMeet
+    ∷ refused (meeting (line Through 1 true Through 1 false)) (meet 1 1 1) MayNotMeet
+    ∷ refused (meeting (line Through 2 false Through 2 true)) (meet 1 1 1) MayNotMeet
+    ∷ refused (meeting (vehicle (Train 0 0) 1 1 2 false 0 ∷ vehicle Through 2 1 1 false 1 ∷ [])) (meet 1 1 1) MayNotMeet
+    ∷ refused (meeting (vehicle Through 1 1 2 false 1 ∷ vehicle (Train 0 0) 2 1 1 false 0 ∷ [])) (meet 1 1 1) MayNotMeet
+    -- both then head to the station given and are met; no clock moves, and the third stays as it is
+    ∷ row (meeting (line (Open 8) 2 false Through 1 false)) (meet 1 1 1) plain (meeting (line (Open 8) 1 true Through 1 true))
+    ∷ row (meeting (line Through 2 true (Open 8) 1 true)) (meet 2 1 1) plain (meeting (line Through 2 true (Open 8) 2 true))
+    -- two of one sender may meet, once one of them has turned
+    ∷ row (meeting (vehicle Through 1 2 2 false 1 ∷ vehicle Through 1 1 1 true 1 ∷ [])) (meet 2 1 2) plain (meeting (vehicle Through 1 2 2 true 1 ∷ vehicle Through 1 1 2 true 1 ∷ []))
+    ∷ []
+
+-- ---- the table holds
+
+abbrev rowsFor : Station → List Edge
+rowsFor x = openRefused x (opening x 1 1 1) ++ openRefused x (passing x 1) ++ returnRefused x ++ trainRefused x ++ receiveRefused x ++ departures x ++ receipts x
+
+abbrev kinds : List Edge
+kinds = declared ++ rowsFor A ++ rowsFor B
+
+pub kinds-hold : answersTo kinds ≡ expectedOf kinds
+unfolding stepOf wellMade decode readAt judge mapFits rangesHold entryIn lengthOf entered padTo
+kinds-hold = refl
+
+pub kinds-leave : rowsLeavingAnother 1 kinds ≡ []
+unfolding stepOf wellMade decode readAt judge mapFits rangesHold entryIn lengthOf entered padTo
+kinds-leave = refl

@@ -1,7 +1,6 @@
 // What a case has on standard input: numbers, high byte first, and bytes behind their length.
-ghost use Prim.Native.Nat.{_*_, _+_, _≤_};
+ghost use Prim.Native.Nat.{_*_, _+_};
 ghost use Rattle.io.specs.Counts.{Counts};
-ghost use lib.ListN.{length};
 ghost use mathlib.Core.Path.{_≡_};
 use libc::STDIN_FILENO;
 

@@ -15,7 +15,7 @@ use prog.Wp.{Heap, Calls, Loops, WpFn, Tables}
 use ghost.Atoms.{Atoms, sem}
 use contract.Monad.{Fun, fact}
 use contract.Running.{givenOf, tables, tablesOf}
-use types.Kit.{Given, ‵, raw, _⊛_, ⋆, some, later, _$_, _∵_, !, qed, by, move, keep, drop, use1, use2, split, join, pick, rewrite, fjoin, suffices, frame, await, done}
+use types.Kit.{Given, ‵, raw, _⊛_, ⋆, some, later, _$_, _∵_, !, qed, by, move, drop, use1, use2, split, join, pick, rewrite, fjoin, suffices, frame, await, done}
 use types.Part.{whole, sub, look-in}
 use types.Run.{look, init, forget, stop, fld, from, load, of-opd, and-then, no-more, assigns, land, returns, enter, alloc1, alloc0, params1, pass1, pass0, free1, free0}
 use denote.RattleType.{owns}
@@ -38,7 +38,7 @@ use denote.Exit.{yes}
 use denote.Triple.Clauses.{ensured, lasts}
 use Rattle.working.specs.Entries.{movedOn, readAt}
 use Rattle.entry.specs.declared.reader.Reader.{Reader}
-use Rattle.entry.proofs.Held.{argVals, logVal, Log, LogOwn, ArgsOwn}
+use Rattle.entry.proofs.Held.{argVals, logVal, Log, LogOwn}
 use Rattle.entry.proofs.reader.Reader as T
 use Rattle.entry.proofs.reader.Reader.Laws as T′
 use Rattle.entry.proofs.reader.Reader.at as at

@@ -11,7 +11,7 @@ use base.Fml.{Lft, Share, ftrue, flft}
 use prog.Memory.{Memory}
 use prog.Routine.{Routine}
 use prog.Wp.{Heap, Calls, Loops, WpFn, Tables}
-use ghost.Atoms.{Atoms, sem}
+use ghost.Atoms.{Atoms}
 use contract.Monad.{Fun, fact}
 use contract.Running.{givenOf, tables, tablesOf}
 use types.Kit.{Given, ‵, raw, _⊛_, ⋆, some, later, _$_, _∵_, !, qed, by, move, use1, use2, split, pick, fjoin, suffices, frame, await, done}
@@ -39,7 +39,7 @@ use Rattle.working.specs.Entries.{readAt}
 use Rattle.working.proofs.Read as S
 use Rattle.working.proofs.Read.Laws as S′
 use Rattle.entry.specs.declared.reader.Reader.{Reader}
-use Rattle.entry.proofs.Held.{argVals, logVal, Log, LogOwn, ArgsOwn}
+use Rattle.entry.proofs.Held.{argVals, logVal, Log, LogOwn}
 use Rattle.entry.proofs.reader.Reader as T
 use Rattle.entry.proofs.reader.Reader.Laws as T′
 use Rattle.entry.proofs.reader.Reader.at as at

@@ -1,22 +1,37 @@
-// Functions for a host in C or Rust: a log's listing, its last line alone, as text and as figures, the answer to its last entry, and how many of its entries are taken. Byte slices and numbers only; host/lupinshift.h declares them.
-ghost use Rattle.host.specs.Answers.{Ends, Figures, Lists, lastOf, ranOf, refusalOf};
-ghost use Rattle.step.specs.Running.{takenIn};
+// Functions for a host in C or Rust: a log's listing, whole or in blocks, its last line alone, as text and as figures, the answer to its last entry, and how many of its
+// entries are taken. Slices of bytes and numbers only; host/lupinshift.h declares them. Where a call is refused the answer is 0, and no lent place is altered.
+ghost use Rattle.lupinshift.specs.Answers.{Ends, Figures, Lists, answerOf, lastOf, refusalOf};
+ghost use Rattle.step.specs.Listings.{listingRoom};
+ghost use Rattle.working.specs.Sections.{fresh};
+ghost use Rattle.working.specs.Turns.{takenIn, turnsOf};
 ghost use mathlib.Core.Path.{_≡_};
-use listing::Listing;
+use listing::LONGEST_LINE;
+use listing::LONGEST_LOG;
 use step::Last;
 use working::Answer;
 use working::Section;
 
+// The room that the listing of any log of so many bytes takes, and the longest line more: at most a line of 25 bytes for each byte, and the last line.
+fn listing_room(len: usize) -> usize
+    ensures { λ r. ⌜ r ≡ listingRoom len ⌝ }
+{
+    if LONGEST_LOG < len {
+        return 2 * LONGEST_LINE;
+    }
+    25 * len + 2 * LONGEST_LINE
+}
+
 // The listing of a log at the front of the buffer lent, and its length. The bytes behind it keep their values.
-// A line is put as long as there is room for the longest, so 172 bytes more than the listing are enough. In a shorter buffer the answer is 0, and the buffer holds the lines
-// that were put.
+// A buffer with less room than the listing of any log of that length takes (`listing_room`) keeps its values, and the answer is 0.
 #[no_mangle]
 pub extern "C" fn lupin_list(log: &[u8], out: &mut [u8]) -> usize
     ensures { λ r. ⌜ Lists (now (log .entry)) (now (out .entry)) r (now (out .exit)) ⌝ }
 {
-    let filled = listing::fill(listing::begin(log), log, out);
-    let at = filled.listing;
-    if at.ended { filled.count } else { 0 }
+    if out.len() < listing_room(log.len()) {
+        return 0;
+    }
+    let filled = step::fill(step::begin(log), log, out);
+    filled.count
 }
 
 // The last line alone of a log's listing, at the front of the buffer lent, and its length. The bytes behind it keep their values.
@@ -27,24 +42,18 @@ pub extern "C" fn lupin_end(log: &[u8], out: &mut [u8]) -> usize
 {
     let ran = step::run(Section::fresh(), log, log.len());
     let section = ran.section;
-    let behind = Listing {
-        section,
-        at: log.len(),
-        left: 0,
-        entries: ran.entries,
-        accepted: ran.accepted,
-        ended: false,
-    };
-    let filled = listing::fill(behind, log, out);
-    filled.count
+    listing::put_last(out, 0, log.len(), ran.entries, ran.accepted, section)
 }
 
 // The eight figures of a log's last line, in its order, at the front of the numbers lent, and 8: entries, accepted, refused, vehicles present, A holds, A owes, B holds, B owes.
-// Fewer than eight numbers keep their values, and the answer is 0. A log of any length is run.
+// Fewer than eight numbers keep their values, and the answer is 0. So it is of a log that is too long to be listed: its last line, `long`, has no figures.
 #[no_mangle]
 pub extern "C" fn lupin_figures(log: &[u8], figures: &mut [u64]) -> usize
     ensures { λ r. ⌜ Figures (now (log .entry)) (now (figures .entry)) r (now (figures .exit)) ⌝ }
 {
+    if LONGEST_LOG < log.len() {
+        return 0;
+    }
     if figures.len() < 8 {
         return 0;
     }
@@ -89,7 +98,7 @@ fn last_of(last: Last) -> u32
 // The number of the refusal that answers the last entry of a log, and 0 where that is accepted or the log has no entry. A log of any length is run.
 #[no_mangle]
 pub extern "C" fn lupin_answer(log: &[u8]) -> u32
-    ensures { λ r. ⌜ r ≡ lastOf (ranOf (now (log .entry)) .last) ⌝ }
+    ensures { λ r. ⌜ r ≡ answerOf (now (log .entry)) ⌝ }
 {
     let ran = step::run(Section::fresh(), log, log.len());
     let last = ran.last;
@@ -99,7 +108,7 @@ pub extern "C" fn lupin_answer(log: &[u8]) -> u32
 // How many entries of a log are taken by its reader: whole, of a known kind, with the right map and the fields in range. A log of any length is read, and nothing is stepped.
 #[no_mangle]
 pub extern "C" fn lupin_taken(log: &[u8]) -> usize
-    ensures { λ r. ⌜ r ≡ takenIn (now (log .entry)) ⌝ }
+    ensures { λ r. ⌜ r ≡ takenIn (turnsOf fresh (now (log .entry))) ⌝ }
 {
     step::taken(log)
 }

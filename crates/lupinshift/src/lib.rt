@@ -1,10 +1,17 @@
 // Functions for a host in C or Rust: a log's listing, whole or in blocks, its last line alone, as text and as figures, the answer to its last entry, and how many of its
 // entries are taken. Slices of bytes and numbers only; host/lupinshift.h declares them. Where a call is refused the answer is 0, and no lent place is altered.
 ghost use Rattle.lupinshift.specs.Answers.{Ends, Figures, Lists, answerOf, lastOf, refusalOf};
+ghost use Rattle.lupinshift.specs.State.{Begins, FillsOn};
 ghost use Rattle.step.specs.Listings.{listingRoom};
 ghost use Rattle.working.specs.Sections.{fresh};
 ghost use Rattle.working.specs.Turns.{takenIn, turnsOf};
 ghost use mathlib.Core.Path.{_≡_};
+
+mod state;
+
+use crate::state::STATE_WORDS;
+use crate::state::keep;
+use crate::state::listing_at;
 use listing::LONGEST_LINE;
 use listing::LONGEST_LOG;
 use step::Last;
@@ -31,6 +38,35 @@ pub extern "C" fn lupin_list(log: &[u8], out: &mut [u8]) -> usize
         return 0;
     }
     let filled = step::fill(step::begin(log), log, out);
+    filled.count
+}
+
+// The start of a log's listing in the words lent, and how many it takes, 50. The words behind them keep their values.
+// Where fewer are lent they keep their values, and the answer is 0.
+#[no_mangle]
+pub extern "C" fn lupin_begin(log: &[u8], words: &mut [u64]) -> usize
+    ensures { λ r. ⌜ Begins (now (log .entry)) (now (words .entry)) r (now (words .exit)) ⌝ }
+{
+    if words.len() < STATE_WORDS {
+        return 0;
+    }
+    keep(words, step::begin(log));
+    STATE_WORDS
+}
+
+// The next lines of a log's listing at the front of the buffer lent, as many as find room, and how many bytes they are. The bytes behind them keep their values. The words
+// say where the listing stands, and are left where it goes on. A buffer of fewer than 172 bytes, the longest line, takes no line; of any longer one the answer is 0 only
+// where the listing has ended. Fewer than 50 words, and the buffer, keep their values, and the answer is 0.
+#[no_mangle]
+pub extern "C" fn lupin_fill(words: &mut [u64], log: &[u8], out: &mut [u8]) -> usize
+    ensures { λ r. ⌜ FillsOn (now (words .entry)) (now (log .entry)) (now (out .entry)) r (now (words .exit)) (now (out .exit)) ⌝ }
+{
+    if words.len() < STATE_WORDS {
+        return 0;
+    }
+    let filled = step::fill(listing_at(words), log, out);
+    let listing = filled.listing;
+    keep(words, listing);
     filled.count
 }
 

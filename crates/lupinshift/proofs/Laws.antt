@@ -3,7 +3,7 @@
 -- Assumes nothing.
 use Prim.Native.Nat.{_<_, _≤_, ℕ}
 use Rattle.listing.specs.Lines.{PutsLine, endFigures, lastLine, longestLine}
-use Rattle.lupinshift.proofs.Room.{listing-fits}
+use Rattle.step.proofs.Room.{listing-fits}
 use Rattle.lupinshift.specs.Answers.{Ends, Gives, Lists, endOf}
 use Rattle.step.proofs.Whole.{room-for-all}
 use Rattle.step.specs.Lines.{Fills, begun, largestCount}

@@ -1,7 +1,7 @@
 -- What a host is answered, and what its buffers then hold, by the definitions of the listing and of a log's turns.
-use Prim.Native.Nat.{_+_, ℕ}
-use Rattle.listing.specs.Lines.{lastLine, longestLine, longestLog}
-use Rattle.step.specs.Listings.{figuresIn, listingOf, listingRoom}
+use Prim.Native.Nat.{_≤_, ℕ}
+use Rattle.listing.specs.Lines.{endLine, lastLine, longestLine, longestLog}
+use Rattle.step.specs.Listings.{figuresIn, joined, linesOf, listedTurns, listingOf, listingRoom}
 use Rattle.step.specs.Running.{lastIn}
 use Rattle.step.specs.declared.running.Last.{Last}
 use Rattle.step.specs.declared.running.Last.the-variants.{Answered, NoEntry}
@@ -14,7 +14,7 @@ use Rattle.working.specs.declared.Answer.the-variants as answer
 use lib.Dec.{ltb}
 use lib.ListN.{length}
 use mathlib.Core.Bool.{Bool, _||_, cond}
-use mathlib.Core.List.{List}
+use mathlib.Core.List.{List, _++_}
 use mathlib.Core.Path.{_≡_}
 
 -- ---- one rule for every buffer
@@ -45,6 +45,13 @@ Ends log out = Gives (ltb (length out) longestLine) (endOf log) out
 -- the eight figures, where there are eight places and the log is not too long: the last line of a longer log has none
 abbrev pub Figures : List ℕ → List ℕ → ℕ → List ℕ → Type 0
 Figures log figures = Gives (ltb longestLog (length log) || ltb (length figures) 8) (figuresOf log) figures
+
+-- the last line and the figures are those of the listing: it ends in the one, whatever the log's length, and that is `end` and the others where the log is not too long
+abbrev pub EndsTheListing : Type 0
+EndsTheListing = (log : List ℕ) → listingOf log ≡ joined (linesOf 0 (listedTurns log)) ++ endOf log
+
+abbrev pub FiguresInTheEnd : Type 0
+FiguresInTheEnd = (log : List ℕ) → length log ≤ longestLog → endOf log ≡ endLine (figuresOf log)
 
 -- ---- the last answer
 

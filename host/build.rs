@@ -1,4 +1,4 @@
-//! Links the static library that `rt staticlib host` builds.
+//! Links the static library that `rt staticlib lupinshift` builds.
 
 use std::path::Path;
 
@@ -6,9 +6,9 @@ fn main() {
     let top = Path::new(env!("CARGO_MANIFEST_DIR")).join("..");
     let folder = top.join("target/staticlib");
     println!("cargo:rustc-link-search=native={}", folder.display());
-    println!("cargo:rustc-link-lib=static=host");
+    println!("cargo:rustc-link-lib=static=lupinshift");
     println!(
         "cargo:rerun-if-changed={}",
-        folder.join("libhost.a").display()
+        folder.join("liblupinshift.a").display()
     );
 }

@@ -1,5 +1,10 @@
-/* The register desk core for a host in C: link target/staticlib/libhost.a, which `rt staticlib host` builds.
-   A slice is a pointer to its first place, never NULL, and how many places it has. */
+/* The register desk core for a host in C: link target/staticlib/liblupinshift.a, which `rt staticlib lupinshift` builds.
+
+   A slice is a pointer to its first place and how many places it has. Where it has none the pointer is not looked at and may be NULL.
+   Slices that a function alters overlap no other slice of the call. No call keeps a pointer, allocates, or has a state of its own.
+
+   One rule holds for every buffer: where a call is refused the answer is 0 and no place of any buffer is altered; where it is not,
+   what is put stands at the front, and the places behind it keep their values. */
 #ifndef LUPINSHIFT_H
 #define LUPINSHIFT_H
 
@@ -13,27 +18,44 @@ extern "C" {
 /* The longest log that is listed, in bytes; of a longer one the listing is `long`. */
 #define LUPIN_LONGEST_LOG 65536
 
-/* A buffer of so many bytes takes the listing of any log of n bytes that is not too long: a line has at most 20 bytes for each of its entry's. */
-#define LUPIN_LISTING_ROOM(n) (20 * (size_t)(n) + 512)
-
 /* The room that any one line of a listing takes, in bytes. */
 #define LUPIN_LONGEST_LINE 172
+
+/* The room, in bytes, that lupin_list asks for a log of n bytes: no listing is longer. */
+#define LUPIN_LISTING_ROOM(n) ((size_t)(n) > LUPIN_LONGEST_LOG ? (size_t)344 : 25 * (size_t)(n) + 344)
+
+/* How many numbers say where a listing in blocks stands. */
+#define LUPIN_STATE_WORDS 50
 
 /* How many figures the last line of a listing has. */
 #define LUPIN_FIGURES 8
 
-/* Puts the listing of the log at the front of out and answers its length; the bytes behind it keep their values.
-   A line is put as long as LUPIN_LONGEST_LINE bytes are left. Where out is too short the answer is 0, and out holds the lines that were put.
-   The two do not overlap. */
+/* Puts the listing of the log at the front of out and answers its length, which is never 0.
+   Refused where out_len is below LUPIN_LISTING_ROOM(log_len). */
 size_t lupin_list(const uint8_t *log, size_t log_len, uint8_t *out, size_t out_len);
 
-/* Puts the last line alone of the log's listing at the front of out and answers its length; the bytes behind it keep their values.
-   Where out has fewer than LUPIN_LONGEST_LINE bytes nothing is altered, and the answer is 0. The two do not overlap. */
+/* The listing in blocks, for a host with a small buffer: lupin_begin once, then lupin_fill until it answers 0. The same log is given
+   to every call. The texts put, one after another, are the listing, whatever the lengths of the buffers.
+
+   lupin_begin puts the start of the listing into the first LUPIN_STATE_WORDS numbers of state and answers LUPIN_STATE_WORDS.
+   Refused where state has fewer. The numbers say where the listing stands and are not for reading: the same place may be told by
+   different numbers. They may be copied, and a copy goes on from there. */
+size_t lupin_begin(const uint8_t *log, size_t log_len, uint64_t *state, size_t state_len);
+
+/* Puts the next lines of the listing, as many as there is room for, at the front of out, answers how many bytes they are, and leaves
+   in state where the listing goes on. A line is put as long as LUPIN_LONGEST_LINE bytes are left, so an out_len below that puts
+   none: the answer is then 0 and the listing stands where it stood. With a longer out the answer is 0 only where the listing has ended.
+   Refused where state has fewer than LUPIN_STATE_WORDS numbers. Any numbers are a state; those that lupin_begin or lupin_fill
+   did not leave may stand for a section that is not well made, and its entries are then listed with refusal 5. */
+size_t lupin_fill(uint64_t *state, size_t state_len, const uint8_t *log, size_t log_len, uint8_t *out, size_t out_len);
+
+/* Puts the last line alone of the log's listing at the front of out and answers its length, which is never 0.
+   Refused where out_len is below LUPIN_LONGEST_LINE. */
 size_t lupin_end(const uint8_t *log, size_t log_len, uint8_t *out, size_t out_len);
 
-/* Puts the eight figures of the log's last line at the front of figures and answers 8: entries, accepted, refused, vehicles present,
-   A holds, A owes, B holds, B owes. Where figures has fewer than eight places nothing is altered, and the answer is 0.
-   A log of any length is run. */
+/* Puts the eight figures of the log's last line at the front of figures and answers LUPIN_FIGURES: entries, accepted, refused,
+   vehicles present, A holds, A owes, B holds, B owes. Refused where figures has fewer places, and where the log is longer than
+   LUPIN_LONGEST_LOG: its last line, `long`, has no figures. */
 size_t lupin_figures(const uint8_t *log, size_t log_len, uint64_t *figures, size_t figures_len);
 
 /* The number of the refusal that answers the last entry of the log, and 0 where that is accepted or the log has no entry.

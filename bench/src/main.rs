@@ -41,12 +41,12 @@ const JOBS: [Job; 4] = [
     },
     Job {
         name: "run",
-        proved: |log, _| mixed(lupinshift::figures(log)),
+        proved: |log, _| mixed(lupinshift::figures(log).expect("a log that is not too long")),
         second: |log, _| mixed(figures_of(log)),
     },
     Job {
         name: "listing",
-        proved: |log, out| lupinshift::list_into(log, out) as u64,
+        proved: |log, out| lupinshift::list_into(log, out).expect("room") as u64,
         second: |log, _| second::list(log).len() as u64,
     },
     Job {

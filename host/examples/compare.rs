@@ -5,7 +5,7 @@ mod shared;
 
 use std::process::ExitCode;
 
-use lupinshift::LONGEST_LINE;
+use lupinshift::{Listing, LONGEST_LINE, LONGEST_LOG};
 use second::generator::{log, Options};
 use second::random::Random;
 use second::Run;
@@ -81,7 +81,7 @@ fn damaged(mut log: Vec<u8>, random: &mut Random) -> Vec<u8> {
 
 /// A log of about the longest length: one byte less, as long, or one more.
 fn long_log(seed: u64, random: &mut Random) -> Vec<u8> {
-    let bytes = lupinshift::LONGEST_LOG - 1 + random.below(3) as usize;
+    let bytes = LONGEST_LOG - 1 + random.below(3) as usize;
     let [plain, ..] = sorts(Some(bytes));
     let made = log(seed, bytes, plain);
     if random.chance(50) {
@@ -97,20 +97,18 @@ fn compare(log: &[u8], random: &mut Random) -> Result<u64, &'static str> {
     if lupinshift::list(log) != listing {
         return Err("the listing");
     }
-    let room = random.below(listing.len() as u32 + 2 * LONGEST_LINE as u32) as usize;
-    let mut out = vec![BEFORE; room];
-    let count = lupinshift::list_into(log, &mut out);
-    if (count, out) != lines_in(&listing, room) {
-        return Err("a short buffer");
+    if !whole(log, &listing) {
+        return Err("the whole listing in one buffer");
+    }
+    if !in_blocks(log, &listing, random) {
+        return Err("the listing in blocks");
     }
     let last = listing.split_inclusive(|&byte| byte == b'\n').next_back();
-    let mut out = vec![BEFORE; room % (2 * LONGEST_LINE)];
-    let count = lupinshift::end_into(log, &mut out);
-    if (count, out) != end_in(last.unwrap_or_default(), room % (2 * LONGEST_LINE)) {
+    if !ends(log, last.unwrap_or_default(), random) {
         return Err("the last line");
     }
     let figures = figures_of(log);
-    if lupinshift::figures(log) != figures {
+    if !figured(log, figures) {
         return Err("the figures");
     }
     if lupinshift::answer(log) != answer_of(log) {
@@ -119,31 +117,80 @@ fn compare(log: &[u8], random: &mut Random) -> Result<u64, &'static str> {
     if lupinshift::taken(log) != taken_of(log) {
         return Err("the entries taken");
     }
-    let mut few = [7; 7];
-    if lupinshift::figures_into(log, &mut few) != 0 || few != [7; 7] {
-        return Err("seven figures");
-    }
     Ok(figures[0])
 }
 
-/// As [`lines_in`], of the last line alone.
-fn end_in(line: &[u8], room: usize) -> (usize, Vec<u8>) {
-    lines_in(if room < LONGEST_LINE { &[] } else { line }, room)
+/// What a buffer of so many bytes holds with the text at its front.
+fn before(text: &[u8], room: usize) -> Vec<u8> {
+    let mut out = vec![BEFORE; room];
+    out[..text.len()].copy_from_slice(text);
+    out
 }
 
-/// What a buffer of so many bytes takes of a listing: the answer, and the
-/// buffer after it.
-fn lines_in(listing: &[u8], room: usize) -> (usize, Vec<u8>) {
+/// The listing in a buffer with just the room, and nothing in one with a byte
+/// less.
+fn whole(log: &[u8], listing: &[u8]) -> bool {
+    let room = lupinshift::listing_room(log.len());
+    let mut out = vec![BEFORE; room];
+    let refused = lupinshift::list_into(log, &mut out[..room - 1]).is_none();
+    refused
+        && out == before(&[], room)
+        && lupinshift::list_into(log, &mut out) == Some(listing.len())
+        && out == before(listing, room)
+}
+
+/// The listing in blocks, each of another length; those with no room for a line
+/// take nothing.
+fn in_blocks(log: &[u8], listing: &[u8], random: &mut Random) -> bool {
+    let mut proved = Listing::new(log);
+    let mut rest = listing;
+    loop {
+        let room = random.below(4 * LONGEST_LINE as u32) as usize;
+        let text = &rest[..put_in(rest, room)];
+        let mut out = vec![BEFORE; room];
+        if proved.fill(&mut out) != text.len() || out != before(text, room) {
+            return false;
+        }
+        if rest.is_empty() && room >= LONGEST_LINE {
+            return true;
+        }
+        rest = &rest[text.len()..];
+    }
+}
+
+/// How many bytes of a listing a block takes: whole lines, as long as there is
+/// room for the longest.
+fn put_in(rest: &[u8], room: usize) -> usize {
     let mut put = 0;
-    for line in listing.split_inclusive(|&byte| byte == b'\n') {
+    for line in rest.split_inclusive(|&byte| byte == b'\n') {
         if room - put < LONGEST_LINE {
             break;
         }
         put += line.len();
     }
+    put
+}
+
+/// The last line where the buffer has room for the longest, else nothing.
+fn ends(log: &[u8], line: &[u8], random: &mut Random) -> bool {
+    let room = random.below(2 * LONGEST_LINE as u32) as usize;
+    let line = if room < LONGEST_LINE { &[] } else { line };
     let mut out = vec![BEFORE; room];
-    out[..put].copy_from_slice(&listing[..put]);
-    (if put == listing.len() { put } else { 0 }, out)
+    let count = lupinshift::end_into(log, &mut out);
+    count == (room >= LONGEST_LINE).then_some(line.len()) && out == before(line, room)
+}
+
+/// Eight figures before a place that keeps its value, or none, of a log that is
+/// too long and where there are fewer places.
+fn figured(log: &[u8], figures: [u64; 8]) -> bool {
+    let mut few = [7; 7];
+    let mut more = [7; 9];
+    let refused = lupinshift::figures_into(log, &mut few).is_none() && few == [7; 7];
+    let given = lupinshift::figures_into(log, &mut more);
+    if log.len() > LONGEST_LOG {
+        return refused && given.is_none() && more == [7; 9];
+    }
+    refused && given == Some(8) && more[..8] == figures && more[8] == 7
 }
 
 /// The number of the refusal that answers the last entry, by the second

@@ -1,13 +1,51 @@
 //! The proved register desk core for hosts in Rust: safe functions over those
 //! that the static library exports.
+//!
+//! The archive comes first: `rt staticlib lupinshift`, in the repository's top
+//! folder, proves the core and writes `target/staticlib/liblupinshift.a`. A
+//! host then depends on this folder by its path,
+//!
+//! ```toml
+//! [dependencies]
+//! lupinshift = { path = "../lupinshift/host" }
+//! ```
+//!
+//! and calls [`list`] for a log's listing, or [`Listing`] to take it in blocks.
+//! [`figures`] is its last line as numbers and [`answer`] the refusal, if any,
+//! of its last entry.
+//!
+//! ```
+//! let log = [0x01, 0x01]; // BEGIN
+//! assert_eq!(lupinshift::list(&log), b"1 1 - ok 0 0 -\nend 1 1 0 0 0 0 0 0\n");
+//! assert_eq!(lupinshift::figures(&log), Some([1, 1, 0, 0, 0, 0, 0, 0]));
+//! assert_eq!(lupinshift::answer(&log), 0);
+//! ```
+//!
+//! Where a call is refused no place of the buffer lent is altered.
 
 #![deny(unsafe_op_in_unsafe_fn)]
+
+use std::io::{self, Write};
 
 /// The functions as `lupinshift.h` declares them: a slice is a pointer and
 /// then a length. They have no conditions but valid slices.
 mod exported {
     extern "C" {
         pub fn lupin_list(log: *const u8, log_len: usize, out: *mut u8, out_len: usize) -> usize;
+        pub fn lupin_begin(
+            log: *const u8,
+            log_len: usize,
+            state: *mut u64,
+            state_len: usize,
+        ) -> usize;
+        pub fn lupin_fill(
+            state: *mut u64,
+            state_len: usize,
+            log: *const u8,
+            log_len: usize,
+            out: *mut u8,
+            out_len: usize,
+        ) -> usize;
         pub fn lupin_end(log: *const u8, log_len: usize, out: *mut u8, out_len: usize) -> usize;
         pub fn lupin_figures(
             log: *const u8,
@@ -27,50 +65,132 @@ pub const LONGEST_LOG: usize = 65_536;
 /// The room that any one line of a listing takes, in bytes.
 pub const LONGEST_LINE: usize = 172;
 
-/// The room, in bytes, that takes the listing of any log of `bytes` bytes.
+/// How many figures the last line of a listing has.
+pub const FIGURES: usize = 8;
+
+/// How many numbers say where a listing in blocks stands.
+const STATE_WORDS: usize = 50;
+
+/// The block in which this wrapper takes a listing, in bytes.
+const BLOCK: usize = 16 * 1024;
+
+/// The room, in bytes, that [`list_into`] asks for a log of `bytes` bytes: no
+/// listing is longer.
 #[must_use]
 pub const fn listing_room(bytes: usize) -> usize {
-    20 * bytes + 512
+    if bytes > LONGEST_LOG {
+        2 * LONGEST_LINE
+    } else {
+        25 * bytes + 2 * LONGEST_LINE
+    }
 }
 
-/// Puts the listing of the log at the front of `out`; its length, or 0 where
-/// `out` is too short. A line is put as long as
-/// [`LONGEST_LINE`] bytes are left.
-pub fn list_into(log: &[u8], out: &mut [u8]) -> usize {
-    // SAFETY: both are whole slices, and a `&mut` slice overlaps no other.
-    unsafe { exported::lupin_list(log.as_ptr(), log.len(), out.as_mut_ptr(), out.len()) }
+/// A count of places that were put; a call that was refused has put none.
+fn some_put(count: usize) -> Option<usize> {
+    (count > 0).then_some(count)
 }
 
-/// Puts the last line alone of the log's listing at the front of `out`; its
-/// length, or 0 where `out` has fewer than [`LONGEST_LINE`] bytes.
-pub fn end_into(log: &[u8], out: &mut [u8]) -> usize {
+/// Puts the listing of the log at the front of `out`; its length, or nothing
+/// where `out` has fewer bytes than [`listing_room`].
+pub fn list_into(log: &[u8], out: &mut [u8]) -> Option<usize> {
     // SAFETY: both are whole slices, and a `&mut` slice overlaps no other.
-    unsafe { exported::lupin_end(log.as_ptr(), log.len(), out.as_mut_ptr(), out.len()) }
+    some_put(unsafe { exported::lupin_list(log.as_ptr(), log.len(), out.as_mut_ptr(), out.len()) })
 }
 
-/// Puts the figures of the log's last line at the front of `figures`; 8, or 0
-/// where there are fewer places than that.
-pub fn figures_into(log: &[u8], figures: &mut [u64]) -> usize {
-    // SAFETY: both are whole slices, and a `&mut` slice overlaps no other.
-    unsafe { exported::lupin_figures(log.as_ptr(), log.len(), figures.as_mut_ptr(), figures.len()) }
+/// A log's listing in blocks: its lines one after another, from where it
+/// stands. A copy goes on from there too.
+#[derive(Clone, Debug)]
+pub struct Listing<'a> {
+    log: &'a [u8],
+    state: [u64; STATE_WORDS],
+}
+
+impl<'a> Listing<'a> {
+    /// The start of the log's listing.
+    #[must_use]
+    pub fn new(log: &'a [u8]) -> Self {
+        let mut state = [0; STATE_WORDS];
+        // SAFETY: both are whole slices, and a `&mut` slice overlaps no other.
+        unsafe {
+            exported::lupin_begin(log.as_ptr(), log.len(), state.as_mut_ptr(), state.len());
+        }
+        Self { log, state }
+    }
+
+    /// Puts the next lines, as many as there is room for, at the front of
+    /// `out`; how many bytes they are. A line is put as long as
+    /// [`LONGEST_LINE`] bytes are left: with an `out` of so many bytes or more
+    /// the answer is 0 only where the listing has ended.
+    pub fn fill(&mut self, out: &mut [u8]) -> usize {
+        let (state, log) = (&mut self.state, self.log);
+        // SAFETY: all three are whole slices, and a `&mut` slice overlaps no
+        // other.
+        unsafe {
+            exported::lupin_fill(
+                state.as_mut_ptr(),
+                state.len(),
+                log.as_ptr(),
+                log.len(),
+                out.as_mut_ptr(),
+                out.len(),
+            )
+        }
+    }
+
+    /// Writes the lines that are still to come, a block at a time.
+    ///
+    /// # Errors
+    ///
+    /// Those of the writer; the block it refused is lost.
+    pub fn write_to(&mut self, writer: &mut impl Write) -> io::Result<()> {
+        let mut block = [0; BLOCK];
+        loop {
+            match self.fill(&mut block) {
+                0 => return Ok(()),
+                count => writer.write_all(&block[..count])?,
+            }
+        }
+    }
 }
 
 /// The listing of a log.
 #[must_use]
 pub fn list(log: &[u8]) -> Vec<u8> {
-    let mut out = vec![0; listing_room(log.len().min(LONGEST_LOG))];
-    let count = list_into(log, &mut out);
-    out.truncate(count);
-    out
+    let mut listing = Listing::new(log);
+    let mut text = Vec::new();
+    let mut block = [0; BLOCK];
+    loop {
+        match listing.fill(&mut block) {
+            0 => return text,
+            count => text.extend_from_slice(&block[..count]),
+        }
+    }
+}
+
+/// Puts the last line alone of the log's listing at the front of `out`; its
+/// length, or nothing where `out` has fewer than [`LONGEST_LINE`] bytes.
+pub fn end_into(log: &[u8], out: &mut [u8]) -> Option<usize> {
+    // SAFETY: both are whole slices, and a `&mut` slice overlaps no other.
+    some_put(unsafe { exported::lupin_end(log.as_ptr(), log.len(), out.as_mut_ptr(), out.len()) })
+}
+
+/// Puts the figures of the log's last line at the front of `figures`; how many
+/// they are, or nothing where there are fewer places than [`FIGURES`] or the
+/// log is longer than [`LONGEST_LOG`].
+pub fn figures_into(log: &[u8], figures: &mut [u64]) -> Option<usize> {
+    // SAFETY: both are whole slices, and a `&mut` slice overlaps no other.
+    some_put(unsafe {
+        exported::lupin_figures(log.as_ptr(), log.len(), figures.as_mut_ptr(), figures.len())
+    })
 }
 
 /// The eight figures of a log's last line: entries, accepted, refused, vehicles
-/// present, A holds, A owes, B holds, B owes.
+/// present, A holds, A owes, B holds, B owes. The last line of a log that is
+/// longer than [`LONGEST_LOG`] has none.
 #[must_use]
-pub fn figures(log: &[u8]) -> [u64; 8] {
-    let mut figures = [0; 8];
-    figures_into(log, &mut figures);
-    figures
+pub fn figures(log: &[u8]) -> Option<[u64; FIGURES]> {
+    let mut figures = [0; FIGURES];
+    figures_into(log, &mut figures).map(|_| figures)
 }
 
 /// The number of the refusal that answers the log's last entry; 0 where that is

@@ -2,7 +2,9 @@ pub mod Advancing
 pub mod Ending
 pub mod Examples
 pub mod Filling
+pub mod LastLine
 pub mod Next
+pub mod Room
 pub mod Said
 pub mod Scans
 pub mod Whole

@@ -1,7 +1,7 @@
--- `host::refusal_of` meets its contract: a refusal's number is the definition's, and an answer that is none has 0.
+-- `lupinshift::refusal_of` meets its contract: a refusal's number is the definition's, and an answer that is none has 0.
 -- Assumes nothing.
-use Rattle.host.proofs.refusal_of.Statement.{statement}
-use Rattle.host.proofs.refusal_of.Tie as tie
+use Rattle.lupinshift.proofs.refusal_of.Statement.{statement}
+use Rattle.lupinshift.proofs.refusal_of.Tie as tie
 use borrow.Author.Needs.{needs}
 
 enum-known-answer : tie.Need-enum-known-answer

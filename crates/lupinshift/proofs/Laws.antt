@@ -1,0 +1,64 @@
+-- A call that is refused and one that is not, by the test that tells: `gives-none`, `gives`. A run from the fresh section is the log's: `from-fresh`.
+-- A buffer with the room of a listing, filled once from the start, holds the listing: `lists`. The last line put alone at the front of a buffer: `ends`. Eight stores, one behind the other, are eight figures at the front: `eight`.
+-- Assumes nothing.
+use Prim.Native.Nat.{_<_, _≤_, ℕ}
+use Rattle.listing.specs.Lines.{PutsLine, endFigures, lastLine, longestLine}
+use Rattle.step.proofs.Room.{listing-fits}
+use Rattle.lupinshift.specs.Answers.{Ends, Gives, Lists, endOf}
+use Rattle.step.proofs.Whole.{room-for-all}
+use Rattle.step.specs.Lines.{Fills, begun, largestCount}
+use Rattle.step.specs.Listings.{listingRoom}
+use Rattle.step.specs.Running.{ranOver}
+use Rattle.step.specs.declared.blocks.Filled.{Filled}
+use Rattle.step.specs.declared.running.Ran.{Ran}
+use Rattle.working.specs.Entries.{pasted}
+use Rattle.working.specs.Sections.{fresh}
+use Rattle.working.specs.Turns.{turnsOf}
+use Rattle.working.specs.declared.Section.{Section}
+use borrow.Author.Tests.{le-leb, le-ltb, lt-leb, ltb-false, ltb-true}
+use lib.Dec.{ltb}
+use lib.ListN.{length, set}
+use lib.Seq.{sets-eq}
+use mathlib.Core.Bool.{Bool, false, true}
+use mathlib.Core.List.{List, [], _∷_}
+use mathlib.Core.Path.{_∙_, _≡_, ap, refl, sym}
+use native.Mathlib.Omega.{arith}
+
+-- a call that is refused: 0, and nothing altered
+pub gives-none : {refused : Bool} {given buffer : List ℕ} → refused ≡ true → Gives refused given buffer 0 buffer
+gives-none e = record { count = rw e; left = rw e }
+
+-- one that is not
+pub gives : {refused : Bool} {given buffer after : List ℕ} {r : ℕ} → refused ≡ false → r ≡ length given → after ≡ pasted buffer 0 given → Gives refused given buffer r after
+gives e count left = record { count = rw e count; left = rw e left }
+
+-- the run of a whole log from a section that is the fresh one
+pub from-fresh : (log : List ℕ) {s : Section} {r : Ran} → r ≡ ranOver s (turnsOf s log) → s ≡ fresh → r ≡ ranOver fresh (turnsOf fresh log)
+from-fresh log e f = e ∙ ap (λ (s : Section). ranOver s (turnsOf s log)) f
+
+-- a buffer that was filled once, from the start, and has the room
+pub lists : {log out after : List ℕ} {filled : Filled} → length log < largestCount → listingRoom (length log) ≤ length out → Fills log (begun log) out filled after
+    → Lists log out (filled .count) after
+lists {log} {out} short room f =
+    let whole = room-for-all log (length out) short (omega (arith, listing-fits log)) .0 in
+    gives (le-ltb _ _ room) (f .count ∙ ap length whole) (f .left ∙ ap (pasted out 0) whole)
+
+-- the last line of a run put at the front of a buffer, or not
+pub ends : (log : List ℕ) {out after : List ℕ} {r : Ran} {behind : ℕ} → r ≡ ranOver fresh (turnsOf fresh log)
+    → PutsLine out 0 (lastLine (length log) (endFigures (r .entries) (r .accepted) (r .section))) behind after → Ends log out behind after
+ends log {out} {after} {r} {behind} e put = by (ltb (length out) longestLine) refl
+  where
+    line : lastLine (length log) (endFigures (r .entries) (r .accepted) (r .section)) ≡ endOf log
+    line = ap (λ (r : Ran). lastLine (length log) (endFigures (r .entries) (r .accepted) (r .section))) e
+
+    by : (b : Bool) → ltb (length out) longestLine ≡ b → Ends log out behind after
+    by true short =
+        let kept = put .keeps (lt-leb longestLine (length out) (ltb-true _ _ short)) in
+        record { count = rw short (kept .0); left = rw short (kept .1) }
+    by false room =
+        let did = put .puts (le-leb longestLine (length out) (ltb-false _ _ room)) in
+        gives room (did .place ∙ omega (arith, ap length line)) (did .left ∙ ap (pasted out 0) line)
+
+pub eight : (l : List ℕ) (a b c d e f g h : ℕ) → 8 ≤ length l
+    → set (set (set (set (set (set (set (set l 0 a) 1 b) 2 c) 3 d) 4 e) 5 f) 6 g) 7 h ≡ pasted l 0 (a ∷ b ∷ c ∷ d ∷ e ∷ f ∷ g ∷ h ∷ [])
+eight l a b c d e f g h room = sets-eq (a ∷ b ∷ c ∷ d ∷ e ∷ f ∷ g ∷ h ∷ []) l 0 room

@@ -1,0 +1,70 @@
+-- What a host is answered, and what its buffers then hold, by the definitions of the listing and of a log's turns.
+use Prim.Native.Nat.{_≤_, ℕ}
+use Rattle.listing.specs.Lines.{endLine, lastLine, longestLine, longestLog}
+use Rattle.step.specs.Listings.{figuresIn, joined, linesOf, listedTurns, listingOf, listingRoom}
+use Rattle.step.specs.Running.{lastIn}
+use Rattle.step.specs.declared.running.Last.{Last}
+use Rattle.step.specs.declared.running.Last.the-variants.{Answered, NoEntry}
+use Rattle.working.specs.Entries.{pasted}
+use Rattle.working.specs.Refusals.{numberOf}
+use Rattle.working.specs.Sections.{fresh}
+use Rattle.working.specs.Turns.{turnsOf}
+use Rattle.working.specs.declared.Answer.{Answer}
+use Rattle.working.specs.declared.Answer.the-variants as answer
+use lib.Dec.{ltb}
+use lib.ListN.{length}
+use mathlib.Core.Bool.{Bool, _||_, cond}
+use mathlib.Core.List.{List, _++_}
+use mathlib.Core.Path.{_≡_}
+
+-- ---- one rule for every buffer
+
+-- some places at the front, the others as they were, and how many; or, where the call is refused, 0 and nothing altered
+pub record Gives (refused : Bool) (given buffer : List ℕ) (r : ℕ) (after : List ℕ) : Type 0 where
+  pub count : r ≡ cond refused 0 (length given)
+  pub left : after ≡ cond refused buffer (pasted buffer 0 given)
+
+-- ---- the listing, its last line, and the figures of that
+
+-- the whole listing, where the buffer has the room of any log of that length
+abbrev pub Lists : List ℕ → List ℕ → ℕ → List ℕ → Type 0
+Lists log out = Gives (ltb (length out) (listingRoom (length log))) (listingOf log) out
+
+-- the figures of a log's last line
+abbrev pub figuresOf : List ℕ → List ℕ
+figuresOf log = figuresIn fresh (turnsOf fresh log)
+
+-- the last line of its listing
+abbrev pub endOf : List ℕ → List ℕ
+endOf log = lastLine (length log) (figuresOf log)
+
+-- the last line, where the buffer has room for the longest
+abbrev pub Ends : List ℕ → List ℕ → ℕ → List ℕ → Type 0
+Ends log out = Gives (ltb (length out) longestLine) (endOf log) out
+
+-- the eight figures, where there are eight places and the log is not too long: the last line of a longer log has none
+abbrev pub Figures : List ℕ → List ℕ → ℕ → List ℕ → Type 0
+Figures log figures = Gives (ltb longestLog (length log) || ltb (length figures) 8) (figuresOf log) figures
+
+-- the last line and the figures are those of the listing: it ends in the one, whatever the log's length, and that is `end` and the others where the log is not too long
+abbrev pub EndsTheListing : Type 0
+EndsTheListing = (log : List ℕ) → listingOf log ≡ joined (linesOf 0 (listedTurns log)) ++ endOf log
+
+abbrev pub FiguresInTheEnd : Type 0
+FiguresInTheEnd = (log : List ℕ) → length log ≤ longestLog → endOf log ≡ endLine (figuresOf log)
+
+-- ---- the last answer
+
+-- the number of a refusal; 0 where the entry is accepted
+abbrev pub refusalOf : Answer → ℕ
+refusalOf (answer.Refused why) = numberOf why
+refusalOf (answer.Accepted form forms speed) = 0
+
+-- 0 too where there was no entry
+abbrev pub lastOf : Last → ℕ
+lastOf NoEntry = 0
+lastOf (Answered a) = refusalOf a
+
+-- the number that answers a log's last entry
+abbrev pub answerOf : List ℕ → ℕ
+answerOf log = lastOf (lastIn NoEntry (turnsOf fresh log))

@@ -1,0 +1,150 @@
+// Functions for a host in C or Rust: a log's listing, whole or in blocks, its last line alone, as text and as figures, the answer to its last entry, and how many of its
+// entries are taken. Slices of bytes and numbers only; host/lupinshift.h declares them. Where a call is refused the answer is 0, and no lent place is altered.
+ghost use Rattle.lupinshift.specs.Answers.{Ends, Figures, Lists, answerOf, lastOf, refusalOf};
+ghost use Rattle.lupinshift.specs.State.{Begins, FillsOn};
+ghost use Rattle.step.specs.Listings.{listingRoom};
+ghost use Rattle.working.specs.Sections.{fresh};
+ghost use Rattle.working.specs.Turns.{takenIn, turnsOf};
+ghost use mathlib.Core.Path.{_≡_};
+
+mod state;
+
+use crate::state::STATE_WORDS;
+use crate::state::keep;
+use crate::state::listing_at;
+use listing::LONGEST_LINE;
+use listing::LONGEST_LOG;
+use step::Last;
+use working::Answer;
+use working::Section;
+
+// The room that the listing of any log of so many bytes takes, and the longest line more: at most a line of 25 bytes for each byte, and the last line.
+fn listing_room(len: usize) -> usize
+    ensures { λ r. ⌜ r ≡ listingRoom len ⌝ }
+{
+    if LONGEST_LOG < len {
+        return 2 * LONGEST_LINE;
+    }
+    25 * len + 2 * LONGEST_LINE
+}
+
+// The listing of a log at the front of the buffer lent, and its length. The bytes behind it keep their values.
+// A buffer with less room than the listing of any log of that length takes (`listing_room`) keeps its values, and the answer is 0.
+#[no_mangle]
+pub extern "C" fn lupin_list(log: &[u8], out: &mut [u8]) -> usize
+    ensures { λ r. ⌜ Lists (now (log .entry)) (now (out .entry)) r (now (out .exit)) ⌝ }
+{
+    if out.len() < listing_room(log.len()) {
+        return 0;
+    }
+    let filled = step::fill(step::begin(log), log, out);
+    filled.count
+}
+
+// The start of a log's listing in the words lent, and how many it takes, 50. The words behind them keep their values.
+// Where fewer are lent they keep their values, and the answer is 0.
+#[no_mangle]
+pub extern "C" fn lupin_begin(log: &[u8], words: &mut [u64]) -> usize
+    ensures { λ r. ⌜ Begins (now (log .entry)) (now (words .entry)) r (now (words .exit)) ⌝ }
+{
+    if words.len() < STATE_WORDS {
+        return 0;
+    }
+    keep(words, step::begin(log));
+    STATE_WORDS
+}
+
+// The next lines of a log's listing at the front of the buffer lent, as many as find room, and how many bytes they are. The bytes behind them keep their values. The words
+// say where the listing stands, and are left where it goes on. A buffer of fewer than 172 bytes, the longest line, takes no line; of any longer one the answer is 0 only
+// where the listing has ended. Fewer than 50 words, and the buffer, keep their values, and the answer is 0.
+#[no_mangle]
+pub extern "C" fn lupin_fill(words: &mut [u64], log: &[u8], out: &mut [u8]) -> usize
+    ensures { λ r. ⌜ FillsOn (now (words .entry)) (now (log .entry)) (now (out .entry)) r (now (words .exit)) (now (out .exit)) ⌝ }
+{
+    if words.len() < STATE_WORDS {
+        return 0;
+    }
+    let filled = step::fill(listing_at(words), log, out);
+    let listing = filled.listing;
+    keep(words, listing);
+    filled.count
+}
+
+// The last line alone of a log's listing, at the front of the buffer lent, and its length. The bytes behind it keep their values.
+// A buffer with no room for the longest line, 172 bytes, keeps its values, and the answer is 0.
+#[no_mangle]
+pub extern "C" fn lupin_end(log: &[u8], out: &mut [u8]) -> usize
+    ensures { λ r. ⌜ Ends (now (log .entry)) (now (out .entry)) r (now (out .exit)) ⌝ }
+{
+    let ran = step::run(Section::fresh(), log, log.len());
+    let section = ran.section;
+    listing::put_last(out, 0, log.len(), ran.entries, ran.accepted, section)
+}
+
+// The eight figures of a log's last line, in its order, at the front of the numbers lent, and 8: entries, accepted, refused, vehicles present, A holds, A owes, B holds, B owes.
+// Fewer than eight numbers keep their values, and the answer is 0. So it is of a log that is too long to be listed: its last line, `long`, has no figures.
+#[no_mangle]
+pub extern "C" fn lupin_figures(log: &[u8], figures: &mut [u64]) -> usize
+    ensures { λ r. ⌜ Figures (now (log .entry)) (now (figures .entry)) r (now (figures .exit)) ⌝ }
+{
+    if LONGEST_LOG < log.len() {
+        return 0;
+    }
+    if figures.len() < 8 {
+        return 0;
+    }
+    let ran = step::run(Section::fresh(), log, log.len());
+    let section = ran.section;
+    let a = section.a;
+    let b = section.b;
+    figures[0] = ran.entries as u64;
+    figures[1] = ran.accepted as u64;
+    figures[2] = section.refused as u64;
+    figures[3] = section.len as u64;
+    figures[4] = a.holds as u64;
+    figures[5] = a.owes as u64;
+    figures[6] = b.holds as u64;
+    figures[7] = b.owes as u64;
+    8
+}
+
+// The number of a refusal, and 0 where the answer is none.
+fn refusal_of(answer: Answer) -> u32
+    ensures { λ r. ⌜ r ≡ refusalOf answer ⌝ }
+{
+    match answer {
+        Answer::Refused(why) => why.number() as u32,
+        Answer::Accepted {
+            form: _,
+            forms: _,
+            speed: _,
+        } => 0,
+    }
+}
+
+fn last_of(last: Last) -> u32
+    ensures { λ r. ⌜ r ≡ lastOf last ⌝ }
+{
+    match last {
+        Last::NoEntry => 0,
+        Last::Answered(answer) => refusal_of(answer),
+    }
+}
+
+// The number of the refusal that answers the last entry of a log, and 0 where that is accepted or the log has no entry. A log of any length is run.
+#[no_mangle]
+pub extern "C" fn lupin_answer(log: &[u8]) -> u32
+    ensures { λ r. ⌜ r ≡ answerOf (now (log .entry)) ⌝ }
+{
+    let ran = step::run(Section::fresh(), log, log.len());
+    let last = ran.last;
+    last_of(last)
+}
+
+// How many entries of a log are taken by its reader: whole, of a known kind, with the right map and the fields in range. A log of any length is read, and nothing is stepped.
+#[no_mangle]
+pub extern "C" fn lupin_taken(log: &[u8]) -> usize
+    ensures { λ r. ⌜ r ≡ takenIn (turnsOf fresh (now (log .entry))) ⌝ }
+{
+    step::taken(log)
+}

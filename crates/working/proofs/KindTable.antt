@@ -37,9 +37,9 @@ backwards [] l = l
 backwards (v ∷ r) l = backwards r (v ∷ l)
 
 -- in force, four refused, this station's desk and the other's, and the vehicles from this station's end on
-abbrev at : Station → List Vehicle → Desk → Section
-at A line mine = working 4 line mine theirs
-at B line mine = working 4 (backwards line []) theirs mine
+abbrev seenFrom : Station → List Vehicle → Desk → Section
+seenFrom A line mine = working 4 line mine theirs
+seenFrom B line mine = working 4 (backwards line []) theirs mine
 
 -- a vehicle of this station, and one of the other, unmet
 abbrev own : Station → Movement → ℕ → ℕ → Vehicle
@@ -73,40 +73,40 @@ runningWith x asked granted = 0x6F ∷ 5 ∷ numberAt x ∷ 0 ∷ 100 ∷ 1 ∷ 
 abbrev openRefused : Station → List ℕ → List Edge
 openRefused x bytes =
     refused fresh bytes NotInForce
-    ∷ refused (at x [] (figures 101 9999 12 (Since 101) true 5 8 8 8)) bytes BeforeClock
-    ∷ refused (at x [] (figures 100 9999 12 (Since 71) true 5 8 8 8)) bytes OpenerAway
-    ∷ refused (at x [] (figures 100 9999 12 (Since 71) false 5 8 1 8)) bytes HoldsLineClear
-    ∷ refused (at x [] (figures 100 9999 12 (Since 71) false 5 8 0 1)) bytes OwesLineClear
-    ∷ refused (at x [] (figures 100 9999 12 (Since 71) false 1 8 0 0)) bytes GuestHere
-    ∷ refused (at x [] (figures 100 9999 12 (Since 71) false 0 8 0 0)) bytes TwelveSent
-    ∷ refused (at x [] (figures 100 9999 11 (Since 71) false 0 8 0 0)) bytes FormsUsed
-    ∷ refused (at x [] (figures 100 9998 11 (Since 71) false 0 8 0 0)) bytes IntervalRunning
+    ∷ refused (seenFrom x [] (figures 101 9999 12 (Since 101) true 5 8 8 8)) bytes BeforeClock
+    ∷ refused (seenFrom x [] (figures 100 9999 12 (Since 71) true 5 8 8 8)) bytes OpenerAway
+    ∷ refused (seenFrom x [] (figures 100 9999 12 (Since 71) false 5 8 1 8)) bytes HoldsLineClear
+    ∷ refused (seenFrom x [] (figures 100 9999 12 (Since 71) false 5 8 0 1)) bytes OwesLineClear
+    ∷ refused (seenFrom x [] (figures 100 9999 12 (Since 71) false 1 8 0 0)) bytes GuestHere
+    ∷ refused (seenFrom x [] (figures 100 9999 12 (Since 71) false 0 8 0 0)) bytes TwelveSent
+    ∷ refused (seenFrom x [] (figures 100 9999 11 (Since 71) false 0 8 0 0)) bytes FormsUsed
+    ∷ refused (seenFrom x [] (figures 100 9998 11 (Since 71) false 0 8 0 0)) bytes IntervalRunning
     ∷ []
 
 -- RETURN: 9, 11, 14, 16, 17, 18, 19; out set and owes above 0 are no reason
 abbrev returnRefused : Station → List Edge
 returnRefused x =
     refused fresh (returningWith x 1 3) NotInForce
-    ∷ refused (at x [] (figures 101 9999 12 (Since 101) true 0 2 1 8)) (returningWith x 1 3) BeforeClock
-    ∷ refused (at x [] (figures 100 9999 12 (Since 71) true 0 2 1 8)) (returningWith x 1 3) HoldsLineClear
-    ∷ refused (at x [] (figures 100 9999 12 (Since 71) true 0 2 0 8)) (returningWith x 1 3) NoGuest
-    ∷ refused (at x [] (figures 100 9999 12 (Since 71) true 1 2 0 8)) (returningWith x 1 3) GrantNotAllowed
-    ∷ refused (at x [] (figures 100 9999 12 (Since 71) true 1 3 0 8)) (returningWith x 1 3) TwelveSent
-    ∷ refused (at x [] (figures 100 9999 11 (Since 71) true 1 3 0 8)) (returningWith x 1 3) FormsUsed
-    ∷ refused (at x [] (figures 100 9998 11 (Since 71) true 1 3 0 8)) (returningWith x 1 3) IntervalRunning
+    ∷ refused (seenFrom x [] (figures 101 9999 12 (Since 101) true 0 2 1 8)) (returningWith x 1 3) BeforeClock
+    ∷ refused (seenFrom x [] (figures 100 9999 12 (Since 71) true 0 2 1 8)) (returningWith x 1 3) HoldsLineClear
+    ∷ refused (seenFrom x [] (figures 100 9999 12 (Since 71) true 0 2 0 8)) (returningWith x 1 3) NoGuest
+    ∷ refused (seenFrom x [] (figures 100 9999 12 (Since 71) true 1 2 0 8)) (returningWith x 1 3) GrantNotAllowed
+    ∷ refused (seenFrom x [] (figures 100 9999 12 (Since 71) true 1 3 0 8)) (returningWith x 1 3) TwelveSent
+    ∷ refused (seenFrom x [] (figures 100 9999 11 (Since 71) true 1 3 0 8)) (returningWith x 1 3) FormsUsed
+    ∷ refused (seenFrom x [] (figures 100 9998 11 (Since 71) true 1 3 0 8)) (returningWith x 1 3) IntervalRunning
     ∷ []
 
 -- TRAIN: 9, 15, 16 for a grant above asked, 16 for a grant while holds stays above 0, 17, 18, 19; out set, owes above 0 and a guest are no reason
 abbrev trainRefused : Station → List Edge
 trainRefused x =
     refused fresh (runningWith x 1 3) NotInForce
-    ∷ refused (at x [] (figures 101 9999 12 (Since 101) true 1 2 0 8)) (runningWith x 1 3) BeforeClock
-    ∷ refused (at x [] (figures 100 9999 12 (Since 71) true 1 2 0 8)) (runningWith x 1 3) NoLineClear
-    ∷ refused (at x [] (figures 100 9999 12 (Since 71) true 1 2 1 8)) (runningWith x 1 3) GrantNotAllowed
-    ∷ refused (at x [] (figures 100 9999 12 (Since 71) true 1 3 2 8)) (runningWith x 1 3) GrantNotAllowed
-    ∷ refused (at x [] (figures 100 9999 12 (Since 71) true 1 3 1 8)) (runningWith x 1 3) TwelveSent
-    ∷ refused (at x [] (figures 100 9999 11 (Since 71) true 1 3 1 8)) (runningWith x 1 3) FormsUsed
-    ∷ refused (at x [] (figures 100 9998 11 (Since 71) true 1 3 1 8)) (runningWith x 1 3) IntervalRunning
+    ∷ refused (seenFrom x [] (figures 101 9999 12 (Since 101) true 1 2 0 8)) (runningWith x 1 3) BeforeClock
+    ∷ refused (seenFrom x [] (figures 100 9999 12 (Since 71) true 1 2 0 8)) (runningWith x 1 3) NoLineClear
+    ∷ refused (seenFrom x [] (figures 100 9999 12 (Since 71) true 1 2 1 8)) (runningWith x 1 3) GrantNotAllowed
+    ∷ refused (seenFrom x [] (figures 100 9999 12 (Since 71) true 1 3 2 8)) (runningWith x 1 3) GrantNotAllowed
+    ∷ refused (seenFrom x [] (figures 100 9999 12 (Since 71) true 1 3 1 8)) (runningWith x 1 3) TwelveSent
+    ∷ refused (seenFrom x [] (figures 100 9999 11 (Since 71) true 1 3 1 8)) (runningWith x 1 3) FormsUsed
+    ∷ refused (seenFrom x [] (figures 100 9998 11 (Since 71) true 1 3 1 8)) (runningWith x 1 3) IntervalRunning
     ∷ []
 
 -- a desk that may receive
@@ -117,15 +117,15 @@ mine = figures 90 7 3 (Since 90) true 3 6 2 7
 abbrev receiveRefused : Station → List Edge
 receiveRefused x =
     refused fresh (receive (numberAt x) 100 (numberAt x) 7) NotInForce
-    ∷ refused (at x [] (withClock 101 mine)) (receive (numberAt x) 100 (numberAt x) 7) BeforeClock
-    ∷ refused (at x [] mine) (receive (numberAt x) 100 (numberAt x) 7) NotNearest
-    ∷ refused (at x (own x Through 6 1 ∷ own x Through 7 1 ∷ []) mine) (receive (numberAt x) 100 (numberAt x) 7) NotNearest
-    ∷ refused (at x (own x (Train 0 0) 6 0 ∷ []) mine) (receive (numberAt x) 100 (numberAt x) 7) NotNearest
-    ∷ refused (at x (own x Through 3 1 ∷ coming x Through 1 ∷ []) mine) (receive (numberAt x) 100 (numberAt (otherAt x)) 3) NotNearest
-    ∷ refused (at x (own x (Train 0 0) 7 0 ∷ []) mine) (receive (numberAt x) 100 (numberAt x) 7) MayNotEnter
-    ∷ refused (at x (own x (Return 0 0) 7 1 ∷ []) mine) (receive (numberAt x) 100 (numberAt x) 7) MayNotEnter
-    ∷ refused (at x (vehicle Through (numberAt x) 7 (numberAt (otherAt x)) true 1 ∷ []) mine) (receive (numberAt x) 100 (numberAt x) 7) MayNotEnter
-    ∷ refused (at x (vehicle Through (numberAt (otherAt x)) 3 (numberAt (otherAt x)) true 1 ∷ []) mine) (receive (numberAt x) 100 (numberAt (otherAt x)) 3) MayNotEnter
+    ∷ refused (seenFrom x [] (withClock 101 mine)) (receive (numberAt x) 100 (numberAt x) 7) BeforeClock
+    ∷ refused (seenFrom x [] mine) (receive (numberAt x) 100 (numberAt x) 7) NotNearest
+    ∷ refused (seenFrom x (own x Through 6 1 ∷ own x Through 7 1 ∷ []) mine) (receive (numberAt x) 100 (numberAt x) 7) NotNearest
+    ∷ refused (seenFrom x (own x (Train 0 0) 6 0 ∷ []) mine) (receive (numberAt x) 100 (numberAt x) 7) NotNearest
+    ∷ refused (seenFrom x (own x Through 3 1 ∷ coming x Through 1 ∷ []) mine) (receive (numberAt x) 100 (numberAt (otherAt x)) 3) NotNearest
+    ∷ refused (seenFrom x (own x (Train 0 0) 7 0 ∷ []) mine) (receive (numberAt x) 100 (numberAt x) 7) MayNotEnter
+    ∷ refused (seenFrom x (own x (Return 0 0) 7 1 ∷ []) mine) (receive (numberAt x) 100 (numberAt x) 7) MayNotEnter
+    ∷ refused (seenFrom x (vehicle Through (numberAt x) 7 (numberAt (otherAt x)) true 1 ∷ []) mine) (receive (numberAt x) 100 (numberAt x) 7) MayNotEnter
+    ∷ refused (seenFrom x (vehicle Through (numberAt (otherAt x)) 3 (numberAt (otherAt x)) true 1 ∷ []) mine) (receive (numberAt x) 100 (numberAt (otherAt x)) 3) MayNotEnter
     ∷ []
 
 -- ---- what an accepted entry does
@@ -133,7 +133,7 @@ receiveRefused x =
 -- a departure of S: one more sent, the next form number, the interval from that minute, the vehicle at S's end; a vehicle of O is on the line already
 abbrev leaves : Station → Desk → List ℕ → ℕ → Speed → Movement → ℕ → Desk → Edge
 leaves x before bytes forms speed movement class after =
-    row (at x (coming x Through 1 ∷ []) before) bytes (Accepted 8 forms speed) (at x (own x movement 8 class ∷ coming x Through 1 ∷ []) after)
+    row (seenFrom x (coming x Through 1 ∷ []) before) bytes (Accepted 8 forms speed) (seenFrom x (own x movement 8 class ∷ coming x Through 1 ∷ []) after)
 
 -- "8 T/G 602 (UP), 16 T/H 602 (DN)"
 abbrev way : Station → ℕ
@@ -165,10 +165,10 @@ departures x =
 
 -- a receipt at S of the vehicle nearest it; another stands behind
 abbrev arrives : Station → Vehicle → ℕ → ℕ → Desk → Edge
-arrives x v sender number after = row (at x (v ∷ coming x Through 1 ∷ []) mine) (receive (numberAt x) 100 sender number) plain (at x (coming x Through 1 ∷ []) after)
+arrives x v sender number after = row (seenFrom x (v ∷ coming x Through 1 ∷ []) mine) (receive (numberAt x) 100 sender number) plain (seenFrom x (coming x Through 1 ∷ []) after)
 
 abbrev comes : Station → Desk → Vehicle → Desk → Edge
-comes x before v after = row (at x (v ∷ []) before) (receive (numberAt x) 100 (numberAt (otherAt x)) 3) plain (at x [] after)
+comes x before v after = row (seenFrom x (v ∷ []) before) (receive (numberAt x) 100 (numberAt (otherAt x)) 3) plain (seenFrom x [] after)
 
 abbrev receipts : Station → List Edge
 receipts x =
@@ -202,12 +202,12 @@ meeting l = working 4 l mine theirs
 abbrev declared : List Edge
 declared =
     -- BEGIN: 6; all but the count as fresh
-    refused (at A [] mine) begin AlreadyInForce
+    refused (seenFrom A [] mine) begin AlreadyInForce
     ∷ row (record { vehicles = padTo 24 []; len = 0; force = false; refused = 4; a = freshDesk; b = freshDesk }) begin plain (working 4 [] freshDesk freshDesk)
     -- RESUME: 7, 8; as fresh but the count
     ∷ refused fresh resume NotInForce
-    ∷ refused (at A (own A Through 7 1 ∷ []) mine) resume VehiclePresent
-    ∷ row (at A [] mine) resume plain (record { vehicles = padTo 24 []; len = 0; force = false; refused = 4; a = freshDesk; b = freshDesk })
+    ∷ refused (seenFrom A (own A Through 7 1 ∷ []) mine) resume VehiclePresent
+    ∷ row (seenFrom A [] mine) resume plain (record { vehicles = padTo 24 []; len = 0; force = false; refused = 4; a = freshDesk; b = freshDesk })
     -- MEET: 7; 22 unless the named one is present and heads to B, its neighbour towards B heads to A, and both are OPEN or THROUGH
     ∷ refused fresh (meet 1 1 1) NotInForce
     ∷ refused (meeting []) (meet 1 1 1) MayNotMeet

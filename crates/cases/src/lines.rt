@@ -10,15 +10,14 @@ use crate::text::put_numbers;
 use working::Answer;
 use working::Entry;
 use working::Read;
-use working::Refusal;
 use working::Section;
 use working::Speed;
 use working::Stepped;
 use working::Written;
 
-fn put_refusal(text: &mut [u8], at: usize, why: Refusal) -> usize {
+fn put_refusal(text: &mut [u8], at: usize, number: u8) -> usize {
     let at = put_bytes(text, at, b" no");
-    put_number(text, at, why.number() as u64)
+    put_number(text, at, number as u64)
 }
 
 // A speed as the lister prints it.
@@ -33,7 +32,7 @@ fn put_speed(text: &mut [u8], at: usize, speed: Speed) -> usize {
 
 fn put_answer(text: &mut [u8], at: usize, answer: Answer) -> usize {
     match answer {
-        Answer::Refused(why) => put_refusal(text, at, why),
+        Answer::Refused(why) => put_refusal(text, at, why.number()),
         Answer::Accepted { form, forms, speed } => {
             let at = put_bytes(text, at, b" ok");
             let at = put_number(text, at, form as u64);
@@ -68,7 +67,7 @@ fn put_read(text: &mut [u8], at: usize, read: Read) -> usize {
     match read {
         Read::End => put_bytes(text, at, b" end"),
         Read::Whole(e, _) => put_entry(text, at, e),
-        Read::Refused(why, _) => put_refusal(text, at, why),
+        Read::Refused(_, _) => put_refusal(text, at, read.number()),
     }
 }
 
@@ -113,9 +112,11 @@ pub(crate) fn put_figures(text: &mut [u8], at: usize, word: &[u8], s: Section) -
 }
 
 fn put_outcome(text: &mut [u8], at: usize, written: Written) -> usize {
-    match written {
-        Written::Filled(next) => put_figure(text, at, b" filled", next),
-        Written::Refused(why) => put_refusal(text, at, why),
+    let number = written.number();
+    if number == 0 {
+        put_figure(text, at, b" filled", written.filled_on(0))
+    } else {
+        put_refusal(text, at, number)
     }
 }
 

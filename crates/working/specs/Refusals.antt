@@ -38,11 +38,6 @@ numberOf NotNearest = 20
 numberOf MayNotEnter = 21
 numberOf MayNotMeet = 22
 
--- of a verdict it is the refusal's, and 0 where all is allowed
-abbrev pub refusalIn : Verdict → ℕ
-refusalIn Allowed = 0
-refusalIn (Refused why) = numberOf why
-
 -- the refusal where its test holds, else what the later tests come to
 abbrev pub orElse : Bool → Refusal → Verdict → Verdict
 orElse true why later = Refused why

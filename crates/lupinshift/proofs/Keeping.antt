@@ -9,7 +9,6 @@ use Rattle.step.specs.declared.lines.Listing.{Listing}
 use Rattle.words.specs.Words.{sectionIn}
 use Rattle.working.specs.Entries.{pasted}
 use Rattle.working.specs.WellMade.{oneIf}
-use Rattle.working.specs.declared.Section.{Section}
 use borrow.Author.Tests.{ltb-false, ltb-true}
 use lib.Dec.{eqb}
 use lib.ListN.{drop, getD, length, length-append, length-drop, set, take}

@@ -3,8 +3,8 @@
 -- Assumes nothing.
 use Prim.Native.Nat.{_<_, _≤_, ℕ}
 use Rattle.listing.specs.Lines.{PutsLine, endFigures, lastLine, longestLine}
-use Rattle.step.proofs.Room.{listing-fits}
 use Rattle.lupinshift.specs.Answers.{Ends, Gives, Lists, endOf}
+use Rattle.step.proofs.Room.{listing-fits}
 use Rattle.step.proofs.Whole.{room-for-all}
 use Rattle.step.specs.Lines.{Fills, begun, largestCount}
 use Rattle.step.specs.Listings.{listingRoom}
@@ -21,7 +21,7 @@ use lib.ListN.{length, set}
 use lib.Seq.{sets-eq}
 use mathlib.Core.Bool.{Bool, false, true}
 use mathlib.Core.List.{List, [], _∷_}
-use mathlib.Core.Path.{_∙_, _≡_, ap, refl, sym}
+use mathlib.Core.Path.{_∙_, _≡_, ap, refl}
 use native.Mathlib.Omega.{arith}
 
 -- a call that is refused: 0, and nothing altered

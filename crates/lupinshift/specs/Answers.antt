@@ -3,14 +3,14 @@ use Prim.Native.Nat.{_≤_, ℕ}
 use Rattle.listing.specs.Lines.{endLine, lastLine, longestLine, longestLog}
 use Rattle.step.specs.Listings.{figuresIn, joined, linesOf, listedTurns, listingOf, listingRoom}
 use Rattle.step.specs.Running.{lastIn}
-use Rattle.step.specs.declared.running.Last.{Last}
 use Rattle.step.specs.declared.running.Last.the-variants.{Answered, NoEntry}
+use Rattle.step.specs.declared.running.Last.{Last}
 use Rattle.working.specs.Entries.{pasted}
 use Rattle.working.specs.Refusals.{numberOf}
 use Rattle.working.specs.Sections.{fresh}
 use Rattle.working.specs.Turns.{turnsOf}
-use Rattle.working.specs.declared.Answer.{Answer}
 use Rattle.working.specs.declared.Answer.the-variants as answer
+use Rattle.working.specs.declared.Answer.{Answer}
 use lib.Dec.{ltb}
 use lib.ListN.{length}
 use mathlib.Core.Bool.{Bool, _||_, cond}

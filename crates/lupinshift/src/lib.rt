@@ -64,10 +64,11 @@ pub extern "C" fn lupin_fill(words: &mut [u64], log: &[u8], out: &mut [u8]) -> u
     if words.len() < STATE_WORDS {
         return 0;
     }
-    let filled = step::fill(listing_at(words), log, out);
-    let listing = filled.listing;
-    keep(words, listing);
-    filled.count
+    let stands = listing_at(words);
+    let put = step::fill(stands, log, out);
+    let goes_on = put.listing;
+    keep(words, goes_on);
+    put.count
 }
 
 // The last line alone of a log's listing, at the front of the buffer lent, and its length. The bytes behind it keep their values.

@@ -7,27 +7,24 @@ ghost use Rattle.working.specs.WellMade.{oneIf};
 ghost use lib.ListN.{drop, length, take};
 ghost use mathlib.Core.Path.{_≡_};
 use step::Listing;
+use words::FIGURES_LENGTH;
+use words::LINE_LENGTH;
 use words::figure_words;
 use words::line_words;
 use words::section_in;
 
-// Words for the places of a section, and for its other figures.
-const PLACES: usize = 24;
+// Behind the section's words the position, how many entries may come, entries, accepted, and whether the listing has ended.
+const AT: usize = LINE_LENGTH + FIGURES_LENGTH;
 
-const FIGURES: usize = 21;
+const LEFT: usize = AT + 1;
 
-// Behind them the position, how many entries may come, entries, accepted, and whether the listing has ended.
-const AT: usize = 45;
+const ENTRIES: usize = AT + 2;
 
-const LEFT: usize = 46;
+const ACCEPTED: usize = AT + 3;
 
-const ENTRIES: usize = 47;
+const ENDED: usize = AT + 4;
 
-const ACCEPTED: usize = 48;
-
-const ENDED: usize = 49;
-
-pub(crate) const STATE_WORDS: usize = 50;
+pub(crate) const STATE_WORDS: usize = AT + 5;
 
 // So many words, from a place of one slice to a place of another.
 fn copy(from: &[u64], first: usize, to: &mut [u64], at: usize, count: usize)
@@ -46,10 +43,10 @@ pub(crate) fn listing_at(words: &[u64]) -> Listing
     requires { ⌜ stateWords ≤ length (now words) ⌝ }
     ensures { λ r. ⌜ r ≡ listingAt (now (words .entry)) ⌝ }
 {
-    let mut line = [0; 24];
-    let mut figures = [0; 21];
-    copy(words, 0, &mut line, 0, PLACES);
-    copy(words, PLACES, &mut figures, 0, FIGURES);
+    let mut line = [0; LINE_LENGTH];
+    let mut figures = [0; FIGURES_LENGTH];
+    copy(words, 0, &mut line, 0, LINE_LENGTH);
+    copy(words, LINE_LENGTH, &mut figures, 0, FIGURES_LENGTH);
     let section = section_in(&line, &figures);
     Listing {
         section,
@@ -75,8 +72,8 @@ pub(crate) fn keep(words: &mut [u64], listing: Listing)
     let section = listing.section;
     let line = line_words(section);
     let figures = figure_words(section);
-    copy(&line, 0, words, 0, PLACES);
-    copy(&figures, 0, words, PLACES, FIGURES);
+    copy(&line, 0, words, 0, LINE_LENGTH);
+    copy(&figures, 0, words, LINE_LENGTH, FIGURES_LENGTH);
     words[AT] = listing.at as u64;
     words[LEFT] = listing.left as u64;
     words[ENTRIES] = listing.entries as u64;

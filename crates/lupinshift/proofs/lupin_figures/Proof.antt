@@ -1,10 +1,10 @@
 -- `lupinshift::lupin_figures` meets its contract: eight stores at the front of the figures lent, of what the run of the whole log comes to.
 -- Assumes nothing.
 use Prim.Native.Nat.{_≤_}
+use Rattle.listing.specs.Lines.{endFigures}
 use Rattle.lupinshift.proofs.Laws.{eight, from-fresh, gives, gives-none}
 use Rattle.lupinshift.proofs.lupin_figures.Statement.{statement}
 use Rattle.lupinshift.proofs.lupin_figures.Tie as tie
-use Rattle.listing.specs.Lines.{endFigures}
 use Rattle.step.specs.declared.running.Ran.{Ran}
 use Rattle.working.specs.Entries.{pasted}
 use borrow.Author.Needs.{needs}

@@ -63,11 +63,11 @@ fn vehicle_in(figures: &[u8], at: usize) -> Vehicle
 }
 
 // The 24 places.
-fn vehicles_in(figures: &[u8]) -> [Vehicle; 24]
+fn vehicles_in(figures: &[u8]) -> [Vehicle; Section::PLACES]
     requires { ⌜ 248 ≤ length (now figures) ⌝ }
     ensures { λ r. ⌜ r ≡ placesAt 24 (now (figures .entry)) 0 ⌝ }
 {
-    let mut places = [Vehicle::unused(); 24];
+    let mut places = [Vehicle::unused(); Section::PLACES];
     let mut i = 0;
     while i < Section::PLACES {
         places[i] = vehicle_in(figures, i * 9);

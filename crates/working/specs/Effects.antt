@@ -124,14 +124,17 @@ ownDesk d time Through = received d time (d .sent - 1) (record { out = d .out; g
 ownDesk d time (Return asked granted) = d
 ownDesk d time (Train asked granted) = d
 
+-- an OPEN "makes .. asked"
+abbrev pub openedClears : Clears → ℕ → Clears
+openedClears c asked = record { asked = asked; holds = c .holds; owes = c .owes }
+
 -- "RETURN and TRAIN set holds to granted, and asked if above 0"
 abbrev pub broughtClears : Clears → ℕ → ℕ → ℕ → Clears
 broughtClears c asked granted owes = record { asked = ifAny asked (c .asked); holds = granted; owes = owes }
 
 -- "One from O: sent becomes 0, and OPEN makes guest and asked; RETURN clears out; TRAIN lowers owes by 1, not below 0"
 abbrev pub otherDesk : Desk → ℕ → ℕ → Movement → Desk
-otherDesk d time class (Open asked) =
-    received d time 0 (record { out = d .out; guest = class; clears = record { asked = asked; holds = d .clears .holds; owes = d .clears .owes } })
+otherDesk d time class (Open asked) = received d time 0 (record { out = d .out; guest = class; clears = openedClears (d .clears) asked })
 otherDesk d time class Through = received d time 0 (record { out = d .out; guest = d .guest; clears = d .clears })
 otherDesk d time class (Return asked granted) =
     received d time 0 (record { out = false; guest = d .guest; clears = broughtClears (d .clears) asked granted (d .clears .owes) })

@@ -1,7 +1,7 @@
--- `tests::is_under` meets its contract: each arm is the definition's own, and the sum fits 32 bits.
+-- `reasons::is_under` meets its contract: each arm is the definition's own, and the sum fits 32 bits.
 -- Assumes nothing.
-use Rattle.rules.proofs.tests.is_under.Statement.{statement}
-use Rattle.rules.proofs.tests.is_under.Tie as tie
+use Rattle.rules.proofs.reasons.is_under.Statement.{statement}
+use Rattle.rules.proofs.reasons.is_under.Tie as tie
 use borrow.Author.Needs.{needs}
 
 enum-told : tie.Need-enum-told

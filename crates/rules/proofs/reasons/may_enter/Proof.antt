@@ -1,7 +1,7 @@
--- `tests::may_enter` meets its contract: the sender says which test it is.
+-- `reasons::may_enter` meets its contract: the sender says which test it is.
 -- Assumes nothing.
-use Rattle.rules.proofs.tests.may_enter.Statement.{statement}
-use Rattle.rules.proofs.tests.may_enter.Tie as tie
+use Rattle.rules.proofs.reasons.may_enter.Statement.{statement}
+use Rattle.rules.proofs.reasons.may_enter.Tie as tie
 use borrow.Author.Needs.{needs}
 use borrow.Author.Tests.{eq-eqb, ne-eqb}
 

@@ -18,7 +18,6 @@ pub use orders::vehicle_for;
 pub use reasons::act_verdict;
 pub use reasons::begin_verdict;
 pub use reasons::departure_verdict;
-pub use reasons::meet_verdict;
 pub use reasons::open_verdict;
 pub use reasons::receive_verdict;
 pub use reasons::resume_verdict;

@@ -2,13 +2,12 @@
 // first, and 17 to 19, which every departure is put to last, are put around the tests of the kind.
 ghost use Rattle.working.specs.Reasons.{beginTests, departTests, isUnder, lastTests, mayEnter, openTests, receiveTests, resumeTests, returnTests, stationTests, trainTests};
 ghost use Rattle.working.specs.Refusals.{Test, firstOf};
-ghost use Rattle.working.specs.declared.Refusal.the-variants.{MayNotMeet, NotInForce};
-ghost use mathlib.Core.Bool.{not};
-ghost use mathlib.Core.List.{List, [], _++_, _∷_};
+ghost use mathlib.Core.List.{List, _++_};
 ghost use mathlib.Core.Path.{_≡_};
 use section::is_named;
 use section::is_opener;
 use section::station_number;
+use working::Clears;
 use working::Desk;
 use working::Interval;
 use working::Refusal;
@@ -30,10 +29,11 @@ fn is_under(interval: Interval, time: u16) -> bool
 pub fn act_verdict(force: bool, d: Desk, time: u16, own: Verdict) -> Verdict
     ensures { λ r. ⌜ ((tests : List Test) → own ≡ firstOf tests → r ≡ firstOf (stationTests force d time ++ tests)) ⌝ }
 {
+    let clock = d.clock;
     if !force {
         return Verdict::Refused(Refusal::NotInForce);
     }
-    if time < d.clock {
+    if time < clock {
         return Verdict::Refused(Refusal::BeforeClock);
     }
     own
@@ -43,14 +43,16 @@ pub fn act_verdict(force: bool, d: Desk, time: u16, own: Verdict) -> Verdict
 fn last_verdict(d: Desk, time: u16, own: Verdict) -> Verdict
     ensures { λ r. ⌜ ((tests : List Test) → own ≡ firstOf tests → r ≡ firstOf (tests ++ lastTests d time)) ⌝ }
 {
+    let sent = d.sent;
+    let last = d.last;
     let interval = d.interval;
     if let Verdict::Refused(why) = own {
         return Verdict::Refused(why);
     }
-    if Desk::MOST_SENT <= d.sent {
+    if Desk::MOST_SENT <= sent {
         return Verdict::Refused(Refusal::TwelveSent);
     }
-    if Desk::LAST_FORM <= d.last {
+    if Desk::LAST_FORM <= last {
         return Verdict::Refused(Refusal::FormsUsed);
     }
     if is_under(interval, time) {
@@ -70,17 +72,22 @@ pub fn departure_verdict(force: bool, d: Desk, time: u16, own: Verdict) -> Verdi
 pub fn open_verdict(d: Desk) -> Verdict
     ensures { λ r. ⌜ r ≡ firstOf (openTests d) ⌝ }
 {
-    let clears = d.clears;
+    let guest = d.guest;
+    let Clears {
+        asked: _,
+        holds,
+        owes,
+    } = d.clears;
     if d.out {
         return Verdict::Refused(Refusal::OpenerAway);
     }
-    if 0 < clears.holds {
+    if 0 < holds {
         return Verdict::Refused(Refusal::HoldsLineClear);
     }
-    if 0 < clears.owes {
+    if 0 < owes {
         return Verdict::Refused(Refusal::OwesLineClear);
     }
-    if 0 < d.guest {
+    if 0 < guest {
         return Verdict::Refused(Refusal::GuestHere);
     }
     Verdict::Allowed
@@ -89,14 +96,19 @@ pub fn open_verdict(d: Desk) -> Verdict
 pub fn return_verdict(d: Desk, granted: u8) -> Verdict
     ensures { λ r. ⌜ r ≡ firstOf (returnTests d granted) ⌝ }
 {
-    let clears = d.clears;
-    if 0 < clears.holds {
+    let guest = d.guest;
+    let Clears {
+        asked,
+        holds,
+        owes: _,
+    } = d.clears;
+    if 0 < holds {
         return Verdict::Refused(Refusal::HoldsLineClear);
     }
-    if d.guest == 0 {
+    if guest == 0 {
         return Verdict::Refused(Refusal::NoGuest);
     }
-    if clears.asked < granted {
+    if asked < granted {
         return Verdict::Refused(Refusal::GrantNotAllowed);
     }
     Verdict::Allowed
@@ -105,11 +117,15 @@ pub fn return_verdict(d: Desk, granted: u8) -> Verdict
 pub fn train_verdict(d: Desk, granted: u8) -> Verdict
     ensures { λ r. ⌜ r ≡ firstOf (trainTests d granted) ⌝ }
 {
-    let clears = d.clears;
-    if clears.holds == 0 {
+    let Clears {
+        asked,
+        holds,
+        owes: _,
+    } = d.clears;
+    if holds == 0 {
         return Verdict::Refused(Refusal::NoLineClear);
     }
-    if (clears.asked < granted) | ((0 < granted) & (1 < clears.holds)) {
+    if (asked < granted) | ((0 < granted) & (1 < holds)) {
         return Verdict::Refused(Refusal::GrantNotAllowed);
     }
     Verdict::Allowed
@@ -159,19 +175,6 @@ pub fn resume_verdict(force: bool, present: usize) -> Verdict
     }
     if 0 < present {
         return Verdict::Refused(Refusal::VehiclePresent);
-    }
-    Verdict::Allowed
-}
-
-// MEET, where it is known whether the two may meet.
-pub fn meet_verdict(force: bool, may: bool) -> Verdict
-    ensures { λ r. ⌜ r ≡ firstOf ((not force, NotInForce) ∷ (not may, MayNotMeet) ∷ []) ⌝ }
-{
-    if !force {
-        return Verdict::Refused(Refusal::NotInForce);
-    }
-    if !may {
-        return Verdict::Refused(Refusal::MayNotMeet);
     }
     Verdict::Allowed
 }

@@ -98,7 +98,7 @@ shape-for B n m class h = and (isOpener m || true) _ (or-intro (isOpener m) true
 pub record StationPasses (force : Bool) : Type 0 where
   pub begun : force ≡ true
 
-station-passes : (force : Bool) (d : Desk) (t : ℕ) → NoneHolds (stationTests force d t) → StationPasses force
+pub station-passes : (force : Bool) (d : Desk) (t : ℕ) → NoneHolds (stationTests force d t) → StationPasses force
 station-passes force d t (begun, later) = record { begun = not-false force begun }
 
 pub record OpenPasses (d : Desk) : Type 0 where
@@ -150,7 +150,7 @@ pub record LastPasses (d : Desk) : Type 0 where
   pub room : d .sent < 12
   pub unused : d .last < 9999
 
-last-passes : (d : Desk) (t : ℕ) → NoneHolds (lastTests d t) → LastPasses d
+pub last-passes : (d : Desk) (t : ℕ) → NoneHolds (lastTests d t) → LastPasses d
 last-passes d t (sent, (forms, later)) = record { room = leb-false 12 (d .sent) sent; unused = leb-false 9999 (d .last) forms }
 
 -- a departure's tests, of which those in the middle are its kind's
@@ -159,7 +159,7 @@ pub record DepartPasses (force : Bool) (d : Desk) (kind : List Test) : Type 0 wh
   pub own : NoneHolds kind
   pub last : LastPasses d
 
-depart-passes : (force : Bool) (d : Desk) (t : ℕ) (own : List Test) → NoneHolds (departTests force d t own) → DepartPasses force d own
+pub depart-passes : (force : Bool) (d : Desk) (t : ℕ) (own : List Test) → NoneHolds (departTests force d t own) → DepartPasses force d own
 depart-passes force d t own n =
     let all = none-of-both (stationTests force d t) (own ++ lastTests d t) n in
     let rest = none-of-both own (lastTests d t) (all .1) in

@@ -5,10 +5,9 @@ ghost use Rattle.listing.specs.Text.{Puts};
 ghost use lib.ListN.{length};
 ghost use mathlib.Core.Path.{_≡_};
 use crate::text::put;
+use crate::text::put_bytes;
 use crate::text::put_field;
 use crate::text::put_number;
-use crate::text::put_three;
-use crate::text::put_two;
 use working::Answer;
 use working::Section;
 use working::Speed;
@@ -38,10 +37,10 @@ pub(crate) fn put_speed(block: &mut [u8], at: usize, speed: Speed) -> usize
     ensures { λ r. ⌜ Puts (now (block .entry)) at (speedText speed) r (now (block .exit)) × (r ≤ at + 21) ⌝ }
 {
     match speed {
-        Speed::NoSpeed => put_two(block, at, b' ', b'-'),
-        Speed::Walking => put_two(block, at, b' ', b'W'),
+        Speed::NoSpeed => put_bytes(block, at, b" -"),
+        Speed::Walking => put_bytes(block, at, b" W"),
         Speed::Kmh(kmh) => put_field(block, at, kmh as usize),
-        Speed::Booked => put_two(block, at, b' ', b'B'),
+        Speed::Booked => put_bytes(block, at, b" B"),
     }
 }
 
@@ -52,11 +51,11 @@ pub(crate) fn put_answer(block: &mut [u8], at: usize, answer: Answer) -> usize
 {
     match answer {
         Answer::Refused(why) => {
-            let at = put_three(block, at, b' ', b'n', b'o');
+            let at = put_bytes(block, at, b" no");
             put_field(block, at, why.number() as usize)
         }
         Answer::Accepted { form, forms, speed } => {
-            let at = put_three(block, at, b' ', b'o', b'k');
+            let at = put_bytes(block, at, b" ok");
             let at = put_field(block, at, form as usize);
             let at = put_field(block, at, forms as usize);
             put_speed(block, at, speed)
@@ -78,7 +77,7 @@ pub(crate) fn put_entry(
 {
     let at = put_number(block, at, number);
     let at = put_field(block, at, kind as usize);
-    let at = put_two(block, at, b' ', letter_at(station));
+    let at = put_bytes(block, at, &[b' ', letter_at(station)]);
     let at = put_answer(block, at, answer);
     put(block, at, b'\n')
 }
@@ -96,7 +95,7 @@ pub(crate) fn put_end(
 {
     let a = s.a;
     let b = s.b;
-    let at = put_three(block, at, b'e', b'n', b'd');
+    let at = put_bytes(block, at, b"end");
     let at = put_field(block, at, entries);
     let at = put_field(block, at, accepted);
     let at = put_field(block, at, s.refused as usize);
@@ -106,15 +105,6 @@ pub(crate) fn put_end(
     let at = put_field(block, at, b.holds as usize);
     let at = put_field(block, at, b.owes as usize);
     put(block, at, b'\n')
-}
-
-// The only line of a log that is too long.
-pub(crate) fn put_long(block: &mut [u8], at: usize) -> usize
-    requires { ⌜ at + 5 ≤ length (now block) ⌝ }
-    ensures { λ r. ⌜ Puts (now (block .entry)) at longLine r (now (block .exit)) ⌝ }
-{
-    let at = put_three(block, at, b'l', b'o', b'n');
-    put_two(block, at, b'g', b'\n')
 }
 
 // Whether a block of so many bytes has room for the longest line at a place.
@@ -160,7 +150,7 @@ pub fn put_last(
         return at;
     }
     if LONGEST_LOG < len {
-        return put_long(block, at);
+        return put_bytes(block, at, b"long\n");
     }
     put_end(block, at, entries, accepted, s)
 }

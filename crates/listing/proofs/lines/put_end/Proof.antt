@@ -28,46 +28,16 @@ behind-b c =
     let seventh = c .before .before .before .before .before in
     omega (arith, behind-a (seventh .before .before .before .before .before), seventh .put-field7 .ensures .1, seventh .put-field7 .kept .0, c .put-field8 .ensures .1, c .put-field8 .kept .0)
 
-put-three-requires : tie.Need-put-three-requires
-put-three-requires c κs = search needs
-
-put-field-requires : tie.Need-put-field-requires
-put-field-requires c κs = search needs
-
-put-field-requires-2 : tie.Need-put-field-requires-2
-put-field-requires-2 c κs = search needs
-
-cast-put-field : tie.Need-cast-put-field
-cast-put-field c = search needs
-
-put-field-requires-3 : tie.Need-put-field-requires-3
-put-field-requires-3 c κs = search needs
-
-put-field-requires-4 : tie.Need-put-field-requires-4
-put-field-requires-4 c κs = search needs
-
-cast-put-field-2 : tie.Need-cast-put-field-2
-cast-put-field-2 c = search needs
-
 put-field-requires-5 : tie.Need-put-field-requires-5
 put-field-requires-5 c κs = omega (arith, behind-present (c .before .before .before .before))
-
-cast-put-field-3 : tie.Need-cast-put-field-3
-cast-put-field-3 c = search needs
 
 put-field-requires-6 : tie.Need-put-field-requires-6
 put-field-requires-6 c κs =
     let fifth = c .before .before .before .before in
     omega (arith, behind-present (fifth .before .before .before .before .before), fifth .put-field5 .ensures .1, fifth .put-field5 .kept .0)
 
-cast-put-field-4 : tie.Need-cast-put-field-4
-cast-put-field-4 c = search needs
-
 put-field-requires-7 : tie.Need-put-field-requires-7
 put-field-requires-7 c κs = omega (arith, behind-a (c .before .before .before .before))
-
-cast-put-field-5 : tie.Need-cast-put-field-5
-cast-put-field-5 c = search needs
 
 put-field-requires-8 : tie.Need-put-field-requires-8
 put-field-requires-8 c κs =
@@ -90,7 +60,7 @@ returns c =
     let second = third .before .before .before .before .before in
     let first = second .before .before .before .before in
     let word = first .before .before .before .before in
-    word .put-three .ensures
+    word .put-bytes .ensures
     then first .put-field .ensures .0
     then second .put-field2 .ensures .0
     then third .put-field3 .ensures .0
@@ -108,19 +78,20 @@ pub put-end-spec : {M : Type 1} → statement M
 put-end-spec =
     tie.close
     (tie.spec
-    put-three-requires
-    put-field-requires
-    put-field-requires-2
-    cast-put-field
-    put-field-requires-3
-    put-field-requires-4
-    cast-put-field-2
+    (λ c. search needs)
+    (λ c κs. search needs)
+    (λ c κs. search needs)
+    (λ c κs. search needs)
+    (λ c. search needs)
+    (λ c κs. search needs)
+    (λ c κs. search needs)
+    (λ c. search needs)
     put-field-requires-5
-    cast-put-field-3
+    (λ c. search needs)
     put-field-requires-6
-    cast-put-field-4
+    (λ c. search needs)
     put-field-requires-7
-    cast-put-field-5
+    (λ c. search needs)
     put-field-requires-8
     put-requires
     same-length

@@ -12,9 +12,6 @@ use mathlib.Core.Bool.{true}
 use mathlib.Core.Path.{_∙_, _≡_, sym}
 use native.Mathlib.Omega.{arith}
 
-has-room-requires : tie.Need-has-room-requires
-has-room-requires c κs = search needs
-
 returns : tie.Need-returns
 returns c = line-not-put (sym (c .before .has-room .ensures) ∙ not-true (c .before .has-room .result) (c .if1 .taken))
 
@@ -25,23 +22,17 @@ there c = sym (c .before .has-room .ensures) ∙ not-false (c .before .has-room 
 room : (c : tie.Else1) → let a = c .before .before .before .args in a .at + longestLine ≤ length (a .block .now)
 room c = leb-true _ _ (there c)
 
-put-long-requires : tie.Need-put-long-requires
-put-long-requires c κs = omega (arith, room (c .before .before))
-
-same-length : tie.Need-same-length
-same-length c = search needs
+put-bytes-requires : tie.Need-put-bytes-requires
+put-bytes-requires c κs = omega (arith, room (c .before .before .before))
 
 returns-2 : tie.Need-returns-2
 returns-2 c =
     let put = c .before .before in
-    let test = put .before .before in
-    line-put (there (test .before)) (rw (lt-ltb _ _ (test .if2 .taken)) (put .put-long .ensures))
+    let test = put .before .before .before in
+    line-put (there (test .before)) (rw (lt-ltb _ _ (test .if2 .taken)) (put .put-bytes .ensures))
 
 put-end-requires : tie.Need-put-end-requires
 put-end-requires c κs = room (c .before .before)
-
-same-length-2 : tie.Need-same-length-2
-same-length-2 c = search needs
 
 returns-3 : tie.Need-returns-3
 returns-3 c =
@@ -53,11 +44,12 @@ pub put-last-spec : {M : Type 1} → statement M
 put-last-spec =
     tie.close
     (tie.spec
-    has-room-requires
+    (λ c κs. search needs)
     returns
-    put-long-requires
-    same-length
+    (λ c. search needs)
+    put-bytes-requires
+    (λ c. search needs)
     returns-2
     put-end-requires
-    same-length-2
+    (λ c. search needs)
     returns-3)

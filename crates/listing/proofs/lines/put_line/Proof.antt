@@ -8,16 +8,10 @@ use borrow.Author.Tests.{leb-true}
 use mathlib.Core.Path.{_∙_, sym}
 use native.Mathlib.Omega.{arith}
 
-has-room-requires : tie.Need-has-room-requires
-has-room-requires c κs = search needs
-
 put-entry-requires : tie.Need-put-entry-requires
 put-entry-requires c κs =
     let test = c .before in
     leb-true _ _ (sym (test .before .has-room .ensures) ∙ test .if1 .taken)
-
-same-length : tie.Need-same-length
-same-length c = search needs
 
 returns : tie.Need-returns
 returns c =
@@ -30,4 +24,4 @@ returns-2 c = line-not-put (sym (c .before .has-room .ensures) ∙ c .if1 .left)
 
 pub put-line-spec : {M : Type 1} → statement M
 put-line-spec =
-    tie.close (tie.spec has-room-requires put-entry-requires same-length returns returns-2)
+    tie.close (tie.spec (λ c κs. search needs) put-entry-requires (λ c. search needs) returns returns-2)

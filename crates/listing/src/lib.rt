@@ -2,7 +2,9 @@
 mod lines;
 mod text;
 
+pub use lines::END_FIGURES;
 pub use lines::LONGEST_LINE;
 pub use lines::LONGEST_LOG;
+pub use lines::end_figures;
 pub use lines::put_last;
 pub use lines::put_line;

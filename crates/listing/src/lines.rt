@@ -1,9 +1,10 @@
 // The lines of a listing.
-ghost use Prim.Native.Nat.{_+_, _≤_};
+ghost use Prim.Native.Nat.{_*_, _+_, _≤_};
 ghost use Rattle.listing.specs.Lines.{PutsLine, answerText, endFigures, endLine, hasRoom, lastLine, letterAt, lineWith, longLine, longestLine, speedText};
-ghost use Rattle.listing.specs.Text.{Puts};
+ghost use Rattle.listing.specs.Text.{Puts, longestField};
 ghost use lib.ListN.{length};
 ghost use mathlib.Core.Path.{_≡_};
+use crate::text::LONGEST_FIELD;
 use crate::text::put;
 use crate::text::put_bytes;
 use crate::text::put_field;
@@ -15,8 +16,11 @@ use working::Speed;
 // The longest log that is listed, in bytes.
 pub const LONGEST_LOG: usize = 65536;
 
-// No line is longer: `end`, eight numbers of at most 20 digits with a blank before each, and a line feed.
-pub const LONGEST_LINE: usize = 172;
+// How many figures the last line has.
+pub const END_FIGURES: usize = 8;
+
+// No line is longer than the last: `end`, its figures, each the longest number behind a blank, and a line feed.
+pub const LONGEST_LINE: usize = 3 + END_FIGURES * LONGEST_FIELD + 1;
 
 // A station's letter, and - where there is none.
 pub(crate) fn letter_at(station: u8) -> u8
@@ -33,8 +37,8 @@ pub(crate) fn letter_at(station: u8) -> u8
 
 // A speed: B booked, W walking pace, - none, else its number.
 pub(crate) fn put_speed(block: &mut [u8], at: usize, speed: Speed) -> usize
-    requires { ⌜ at + 21 ≤ length (now block) ⌝ }
-    ensures { λ r. ⌜ Puts (now (block .entry)) at (speedText speed) r (now (block .exit)) × (r ≤ at + 21) ⌝ }
+    requires { ⌜ at + longestField ≤ length (now block) ⌝ }
+    ensures { λ r. ⌜ Puts (now (block .entry)) at (speedText speed) r (now (block .exit)) × (r ≤ at + longestField) ⌝ }
 {
     match speed {
         Speed::NoSpeed => put_bytes(block, at, b" -"),
@@ -46,8 +50,8 @@ pub(crate) fn put_speed(block: &mut [u8], at: usize, speed: Speed) -> usize
 
 // An answer: `no` and the refusal's number, or `ok`, form number, forms and speed.
 pub(crate) fn put_answer(block: &mut [u8], at: usize, answer: Answer) -> usize
-    requires { ⌜ at + 66 ≤ length (now block) ⌝ }
-    ensures { λ r. ⌜ Puts (now (block .entry)) at (answerText answer) r (now (block .exit)) × (r ≤ at + 66) ⌝ }
+    requires { ⌜ at + 3 + 3 * longestField ≤ length (now block) ⌝ }
+    ensures { λ r. ⌜ Puts (now (block .entry)) at (answerText answer) r (now (block .exit)) × (r ≤ at + 3 + 3 * longestField) ⌝ }
 {
     match answer {
         Answer::Refused(why) => {
@@ -82,29 +86,36 @@ pub(crate) fn put_entry(
     put(block, at, b'\n')
 }
 
-// The last line: `end`, entries, accepted, refused, vehicles present, A holds, A owes, B holds, B owes.
-pub(crate) fn put_end(
-    block: &mut [u8],
-    at: usize,
-    entries: usize,
-    accepted: usize,
-    s: Section,
-) -> usize
-    requires { ⌜ at + longestLine ≤ length (now block) ⌝ }
-    ensures { λ r. ⌜ Puts (now (block .entry)) at (endLine (endFigures entries accepted s)) r (now (block .exit)) ⌝ }
+// The figures of the last line, in its order: entries, accepted, refused, vehicles present, A holds, A owes, B holds, B owes.
+pub fn end_figures(entries: usize, accepted: usize, s: Section) -> [u64; END_FIGURES]
+    ensures { λ r. ⌜ r ≡ endFigures entries accepted s ⌝ }
 {
     let a = s.a;
     let b = s.b;
-    let at = put_bytes(block, at, b"end");
-    let at = put_field(block, at, entries);
-    let at = put_field(block, at, accepted);
-    let at = put_field(block, at, s.refused as usize);
-    let at = put_field(block, at, s.len);
-    let at = put_field(block, at, a.holds as usize);
-    let at = put_field(block, at, a.owes as usize);
-    let at = put_field(block, at, b.holds as usize);
-    let at = put_field(block, at, b.owes as usize);
-    put(block, at, b'\n')
+    [
+        entries as u64,
+        accepted as u64,
+        s.refused as u64,
+        s.len as u64,
+        a.holds as u64,
+        a.owes as u64,
+        b.holds as u64,
+        b.owes as u64,
+    ]
+}
+
+// The last line: `end`, and its figures.
+pub(crate) fn put_end(block: &mut [u8], at: usize, figures: &[u64]) -> usize
+    requires { ⌜ at + 3 + length (now figures) * longestField + 1 ≤ length (now block) ⌝ }
+    ensures { λ r. ⌜ Puts (now (block .entry)) at (endLine (now (figures .entry))) r (now (block .exit)) ⌝ }
+{
+    let mut end = put_bytes(block, at, b"end");
+    let mut i = 0;
+    while i < figures.len() {
+        end = put_field(block, end, figures[i] as usize);
+        i += 1;
+    }
+    put(block, end, b'\n')
 }
 
 // Whether a block of so many bytes has room for the longest line at a place.
@@ -152,5 +163,5 @@ pub fn put_last(
     if LONGEST_LOG < len {
         return put_bytes(block, at, b"long\n");
     }
-    put_end(block, at, entries, accepted, s)
+    put_end(block, at, &end_figures(entries, accepted, s))
 }

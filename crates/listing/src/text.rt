@@ -1,9 +1,12 @@
 // Text put into a block: bytes and decimal numbers, one behind the other.
 ghost use Prim.Native.Nat.{_%_, _*_, _+_, _<_, _^_, _≤_};
-ghost use Rattle.listing.specs.Text.{Puts, decimal, digitAt, field};
+ghost use Rattle.listing.specs.Text.{Puts, decimal, digitAt, field, longestField, longestNumber};
 ghost use lib.ListN.{length};
 ghost use mathlib.Core.List.{[], _∷_};
 ghost use mathlib.Core.Path.{_≡_};
+
+// A blank and a number, the longest of which has 20 digits.
+pub(crate) const LONGEST_FIELD: usize = 21;
 
 // A byte at a place of the block; the place behind it.
 pub(crate) fn put(block: &mut [u8], at: usize, byte: u8) -> usize
@@ -29,7 +32,7 @@ pub(crate) fn put_bytes(block: &mut [u8], at: usize, bytes: &[u8]) -> usize
 }
 
 // The ASCII code of the last digit of a number.
-pub(crate) fn last_digit(n: usize) -> u8
+fn last_digit(n: usize) -> u8
     ensures { λ r. ⌜ r ≡ 48 + n % 10 ⌝ }
 {
     b'0' + (n % 10) as u8
@@ -62,11 +65,11 @@ fn put_digits(block: &mut [u8], at: usize, n: usize, first: usize, count: usize)
     put(block, end, last_digit(n))
 }
 
-// A number in decimal digits, of which it has at most 20, the first of them not 0 unless it is the only one. The units are constants here, so that up to five digits are put
-// with no loop and no division in the program that is run.
+// A number in decimal digits, the first of them not 0 unless it is the only one. The units stand here as constants, so that up to five digits are put with no loop and no
+// division when the program is run.
 pub(crate) fn put_number(block: &mut [u8], at: usize, n: usize) -> usize
-    requires { ⌜ at + 20 ≤ length (now block) ⌝ }
-    ensures { λ r. ⌜ Puts (now (block .entry)) at (decimal n) r (now (block .exit)) × (r ≤ at + 20) ⌝ }
+    requires { ⌜ at + longestNumber ≤ length (now block) ⌝ }
+    ensures { λ r. ⌜ Puts (now (block .entry)) at (decimal n) r (now (block .exit)) × (r ≤ at + longestNumber) ⌝ }
 {
     if n < 10 {
         return put_digits(block, at, n, 1, 0);
@@ -77,10 +80,10 @@ pub(crate) fn put_number(block: &mut [u8], at: usize, n: usize) -> usize
     put_digits(block, at, n, 10000000000000000000, 19)
 }
 
-// A blank and a number, which has at most 20 digits.
+// A blank and a number.
 pub(crate) fn put_field(block: &mut [u8], at: usize, n: usize) -> usize
-    requires { ⌜ at + 21 ≤ length (now block) ⌝ }
-    ensures { λ r. ⌜ Puts (now (block .entry)) at (field n) r (now (block .exit)) × (r ≤ at + 21) ⌝ }
+    requires { ⌜ at + longestField ≤ length (now block) ⌝ }
+    ensures { λ r. ⌜ Puts (now (block .entry)) at (field n) r (now (block .exit)) × (r ≤ at + longestField) ⌝ }
 {
     let at = put(block, at, b' ');
     put_number(block, at, n)

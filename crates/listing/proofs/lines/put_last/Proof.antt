@@ -9,7 +9,7 @@ use borrow.Author.Needs.{needs}
 use borrow.Author.Tests.{le-ltb, leb-true, lt-ltb, not-false, not-true}
 use lib.ListN.{length}
 use mathlib.Core.Bool.{true}
-use mathlib.Core.Path.{_∙_, _≡_, sym}
+use mathlib.Core.Path.{_∙_, _≡_, ap, sym}
 use native.Mathlib.Omega.{arith}
 
 returns : tie.Need-returns
@@ -32,13 +32,16 @@ returns-2 c =
     line-put (there (test .before)) (rw (lt-ltb _ _ (test .if2 .taken)) (put .put-bytes .ensures))
 
 put-end-requires : tie.Need-put-end-requires
-put-end-requires c κs = room (c .before .before)
+put-end-requires c κs =
+    let figures = c .before in
+    omega (arith, room (figures .before .before .before), ap length (figures .end-figures .ensures))
 
 returns-3 : tie.Need-returns-3
 returns-3 c =
     let put = c .before .before in
-    let test = put .before .before in
-    line-put (there (test .before)) (rw (le-ltb _ _ (test .if2 .left)) (put .put-end .ensures))
+    let figures = put .before .before in
+    let test = figures .before .before in
+    line-put (there (test .before)) (rw (le-ltb _ _ (test .if2 .left), ← figures .end-figures .ensures) (put .put-end .ensures))
 
 pub put-last-spec : {M : Type 1} → statement M
 put-last-spec =
@@ -50,6 +53,8 @@ put-last-spec =
     put-bytes-requires
     (λ c. search needs)
     returns-2
+    (λ c κs. search needs)
+    (λ c. search needs)
     put-end-requires
     (λ c. search needs)
     returns-3)

@@ -2,7 +2,7 @@
 -- A buffer with the room of a listing, filled once from the start, holds the listing: `lists`. The last line put alone at the front of a buffer: `ends`.
 -- Assumes nothing.
 use Prim.Native.Nat.{_<_, _≤_, ℕ}
-use Rattle.listing.specs.Lines.{PutsLine, endFigures, lastLine, longestLine}
+use Rattle.listing.specs.LineText.{PutsLine, endFigures, lastLine, longestLine}
 use Rattle.lupinshift.specs.Answers.{Ends, Gives, Lists, endOf}
 use Rattle.step.proofs.Room.{listing-fits}
 use Rattle.step.proofs.Whole.{room-for-all}

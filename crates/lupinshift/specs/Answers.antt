@@ -1,6 +1,6 @@
 -- What a host is answered, and what its buffers then hold, by the definitions of the listing and of a log's turns.
 use Prim.Native.Nat.{_≤_, ℕ}
-use Rattle.listing.specs.Lines.{endFigureCount, endLine, lastLine, longestLine, longestLog}
+use Rattle.listing.specs.LineText.{endFigureCount, endLine, lastLine, longestLine, longestLog}
 use Rattle.step.specs.Listings.{figuresIn, joined, linesOf, listedTurns, listingOf, listingRoom}
 use Rattle.step.specs.Running.{lastIn}
 use Rattle.step.specs.declared.running.Last.the-variants.{Answered, NoEntry}

@@ -24,13 +24,14 @@ loop-holds c = (search needs, search needs, search needs, none _ _ (omega arith)
 loop-again : tie.Need-loop-again Inv-loop μ-loop
 loop-again c =
     let turn = c .before .before .before .before .before in
-    let bytes = turn .before .before .before .before .args .bytes .now in
-    (search needs, search needs, search needs, rw (add-one (turn .before .loop .i), take-suc bytes (turn .before .loop .i) 0 (turn .loop-test .taken)) (turn .before .loop .inv .3 then c .before .before .put .ensures))
+    let i = turn .before .loop .i in
+    let more = take-suc (turn .before .before .before .before .args .bytes .now) i 0 (turn .loop-test .taken) in
+    (search needs, search needs, search needs, rw (add-one i, more) (turn .before .loop .inv .3 then c .before .before .put .ensures))
 
 returns : tie.Need-returns Inv-loop μ-loop
 returns c =
-    let bytes = c .before .before .before .before .args .bytes .now in
-    rw (take-all (c .before .loop .i) bytes (omega arith)) at (c .before .loop .inv .3)
+    let loop = c .before .loop in
+    rw (take-all (loop .i) (c .before .before .before .before .args .bytes .now) (omega arith)) at (loop .inv .3)
 
 pub put-bytes-spec : {M : Type 1} → statement M
 put-bytes-spec =

@@ -20,19 +20,21 @@ abbrev μ-loop : tie.MeasureT-loop
 μ-loop block₀ at n first count end₀ unit₀ left₀ block end unit left = left
 
 loop-holds : tie.Need-loop-holds Inv-loop μ-loop
-loop-holds c = (search needs, search needs, search needs, rw (none-yet (c .before .args .first * 10) (c .before .args .n) (omega arith)) (none _ _ (omega arith)))
+loop-holds c =
+    let a = c .before .args in
+    (search needs, search needs, search needs, rw (none-yet (a .first * 10) (a .n) (omega arith)) (none _ _ (omega arith)))
 
 put-digit-requires : tie.Need-put-digit-requires Inv-loop μ-loop
 put-digit-requires c κs = (omega (arith, one-le-pow (c .before .before .loop .left) 10 (search needs)), search needs)
 
 loop-again : tie.Need-loop-again Inv-loop μ-loop
 loop-again c =
-    let turn = c .before .before .before .before in
-    let unit = turn .before .loop .unit in
-    let n = turn .before .before .before .args .n in
-    let tenth = tenfold (turn .before .loop .left) (search needs) in
+    let turn = c .before .before .before .before .before in
+    let unit = turn .loop .unit in
+    let tenth = tenfold (turn .loop .left) (search needs) in
     let whole : unit / 10 * 10 ≡ unit = omega arith in
-    (omega arith, search needs, search needs, rw (whole, one-more unit n (omega (arith, one-le-pow (turn .before .loop .left) 10 (search needs)))) (turn .before .loop .inv .3 then c .before .before .put-digit .ensures .0))
+    let more = one-more unit (turn .before .before .args .n) (omega (arith, one-le-pow (turn .loop .left) 10 (search needs))) in
+    (omega arith, search needs, search needs, rw (whole, more) (turn .loop .inv .3 then c .before .before .put-digit .ensures .0))
 
 returns : tie.Need-returns Inv-loop μ-loop
 returns c =
@@ -41,7 +43,8 @@ returns c =
     let end = digit .before .before .before in
     let none-left : end .loop .left ≡ 0 = omega arith in
     let one : end .loop .unit ≡ 1 = rw none-left at (end .loop .inv .0) in
-    (rw (then-last (end .before .before .args .n), ← digit .last-digit .ensures) (rw one at (end .loop .inv .3) then last .put .ensures), search needs)
+    let others = rw one at (end .loop .inv .3) in
+    (rw (then-last (end .before .before .args .n), ← digit .last-digit .ensures) (others then last .put .ensures), search needs)
 
 pub put-digits-spec : {M : Type 1} → statement M
 put-digits-spec =

@@ -1,10 +1,10 @@
--- `lines::put_last` meets its contract: the line is put where there is room for the longest, and the test of the log's length is the definition's.
+-- `line_text::put_last` meets its contract: the line is put where there is room for the longest, and the test of the log's length is the definition's.
 -- Assumes nothing.
 use Prim.Native.Nat.{_+_, _≤_}
 use Rattle.listing.proofs.Putting.{line-not-put, line-put}
-use Rattle.listing.proofs.lines.put_last.Statement.{statement}
-use Rattle.listing.proofs.lines.put_last.Tie as tie
-use Rattle.listing.specs.Lines.{hasRoom, longestLine}
+use Rattle.listing.proofs.line_text.put_last.Statement.{statement}
+use Rattle.listing.proofs.line_text.put_last.Tie as tie
+use Rattle.listing.specs.LineText.{longestLine, roomForLine}
 use borrow.Author.Needs.{needs}
 use borrow.Author.Tests.{le-ltb, leb-true, lt-ltb, not-false, not-true}
 use lib.ListN.{length}
@@ -13,11 +13,11 @@ use mathlib.Core.Path.{_∙_, _≡_, ap, sym}
 use native.Mathlib.Omega.{arith}
 
 returns : tie.Need-returns
-returns c = line-not-put (sym (c .before .has-room .ensures) ∙ not-true (c .before .has-room .result) (c .if1 .taken))
+returns c = line-not-put (sym (c .before .room-for-line .ensures) ∙ not-true (c .before .room-for-line .result) (c .if1 .taken))
 
 -- behind the first test there is room
-there : (c : tie.Else1) → let a = c .before .before .before .args in hasRoom (length (a .block .now)) (a .at) ≡ true
-there c = sym (c .before .has-room .ensures) ∙ not-false (c .before .has-room .result) (c .if1 .left)
+there : (c : tie.Else1) → let a = c .before .before .before .args in roomForLine (length (a .block .now)) (a .at) ≡ true
+there c = sym (c .before .room-for-line .ensures) ∙ not-false (c .before .room-for-line .result) (c .if1 .left)
 
 room : (c : tie.Else1) → let a = c .before .before .before .args in a .at + longestLine ≤ length (a .block .now)
 room c = leb-true _ _ (there c)

@@ -1,7 +1,7 @@
--- `lines::put_speed` meets its contract: each arm is the definition's own.
+-- `line_text::put_speed` meets its contract: each arm is the definition's own.
 -- Assumes nothing.
-use Rattle.listing.proofs.lines.put_speed.Statement.{statement}
-use Rattle.listing.proofs.lines.put_speed.Tie as tie
+use Rattle.listing.proofs.line_text.put_speed.Statement.{statement}
+use Rattle.listing.proofs.line_text.put_speed.Tie as tie
 use borrow.Author.Needs.{needs}
 
 returns : tie.Need-returns

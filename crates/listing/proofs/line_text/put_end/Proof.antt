@@ -1,10 +1,10 @@
--- `lines::put_end` meets its contract. The loop's invariant: the first `i` of the figures are put behind the word.
+-- `line_text::put_end` meets its contract. The loop's invariant: the first `i` of the figures are put behind the word.
 -- Assumes nothing.
 use Prim.Native.Nat.{_*_, _+_, _-_, _≤_}
 use Rattle.listing.proofs.Putting.{_then_, none, one-figure-more}
-use Rattle.listing.proofs.lines.put_end.Statement.{statement}
-use Rattle.listing.proofs.lines.put_end.Tie as tie
-use Rattle.listing.specs.Lines.{endLine, figuresText}
+use Rattle.listing.proofs.line_text.put_end.Statement.{statement}
+use Rattle.listing.proofs.line_text.put_end.Tie as tie
+use Rattle.listing.specs.LineText.{endLine, figuresText}
 use Rattle.listing.specs.Text.{Puts, longestField}
 use borrow.Author.Needs.{needs}
 use lib.ListN.{length, take}
@@ -27,9 +27,9 @@ loop-again : tie.Need-loop-again Inv-loop μ-loop
 loop-again c =
     let turn = c .before .before .before .before .before in
     let word = turn .before .before .before .before in
-    let figures = word .before .before .before .before .before .args .figures .now in
-    let more = one-figure-more figures (turn .before .loop .i) (turn .loop-test .taken) in
-    (search needs, search needs, search needs, rw (add-one (turn .before .loop .i), more) (turn .before .loop .inv .3 then c .before .before .put-field .ensures .0))
+    let i = turn .before .loop .i in
+    let more = one-figure-more (word .before .before .before .before .before .args .figures .now) i (turn .loop-test .taken) in
+    (search needs, search needs, search needs, rw (add-one i, more) (turn .before .loop .inv .3 then c .before .before .put-field .ensures .0))
 
 returns : tie.Need-returns Inv-loop μ-loop
 unfolding endLine

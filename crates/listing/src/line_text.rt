@@ -1,6 +1,6 @@
 // The lines of a listing.
 ghost use Prim.Native.Nat.{_*_, _+_, _≤_};
-ghost use Rattle.listing.specs.Lines.{PutsLine, answerText, endFigures, endLine, hasRoom, lastLine, letterAt, lineWith, longLine, longestLine, speedText};
+ghost use Rattle.listing.specs.LineText.{PutsLine, answerText, endFigures, endLine, lastLine, letterAt, lineText, longestLine, roomForLine, speedText};
 ghost use Rattle.listing.specs.Text.{Puts, longestField};
 ghost use lib.ListN.{length};
 ghost use mathlib.Core.Path.{_≡_};
@@ -77,7 +77,7 @@ pub(crate) fn put_entry(
     answer: Answer,
 ) -> usize
     requires { ⌜ at + longestLine ≤ length (now block) ⌝ }
-    ensures { λ r. ⌜ Puts (now (block .entry)) at (lineWith number kind station answer) r (now (block .exit)) ⌝ }
+    ensures { λ r. ⌜ Puts (now (block .entry)) at (lineText number kind station answer) r (now (block .exit)) ⌝ }
 {
     let at = put_number(block, at, number);
     let at = put_field(block, at, kind as usize);
@@ -119,13 +119,16 @@ pub(crate) fn put_end(block: &mut [u8], at: usize, figures: &[u64]) -> usize
 }
 
 // Whether a block of so many bytes has room for the longest line at a place.
-pub(crate) fn has_room(len: usize, at: usize) -> bool
-    ensures { λ r. ⌜ r ≡ hasRoom len at ⌝ }
+pub(crate) fn room_for_line(len: usize, at: usize) -> bool
+    ensures { λ r. ⌜ r ≡ roomForLine len at ⌝ }
 {
     if len < at {
         return false;
     }
-    LONGEST_LINE <= len - at
+    if len - at < LONGEST_LINE {
+        return false;
+    }
+    true
 }
 
 // An entry's line: its number in the log, kind, station and answer. It is put where the block has room for the longest line, and the place behind it is given; elsewhere
@@ -138,9 +141,9 @@ pub fn put_line(
     station: u8,
     answer: Answer,
 ) -> usize
-    ensures { λ r. ⌜ PutsLine (now (block .entry)) at (lineWith number kind station answer) r (now (block .exit)) ⌝ }
+    ensures { λ r. ⌜ PutsLine (now (block .entry)) at (lineText number kind station answer) r (now (block .exit)) ⌝ }
 {
-    if has_room(block.len(), at) {
+    if room_for_line(block.len(), at) {
         return put_entry(block, at, number, kind, station, answer);
     }
     at
@@ -157,7 +160,7 @@ pub fn put_last(
 ) -> usize
     ensures { λ r. ⌜ PutsLine (now (block .entry)) at (lastLine len (endFigures entries accepted s)) r (now (block .exit)) ⌝ }
 {
-    if !has_room(block.len(), at) {
+    if !room_for_line(block.len(), at) {
         return at;
     }
     if LONGEST_LOG < len {

@@ -1,13 +1,13 @@
--- `lines::put_entry` meets its contract: each field is put behind the one before it.
+-- `line_text::put_entry` meets its contract: each field is put behind the one before it.
 -- Assumes nothing.
 use Rattle.listing.proofs.Putting.{_then_}
-use Rattle.listing.proofs.lines.put_entry.Statement.{statement}
-use Rattle.listing.proofs.lines.put_entry.Tie as tie
-use Rattle.listing.specs.Lines.{lineWith}
+use Rattle.listing.proofs.line_text.put_entry.Statement.{statement}
+use Rattle.listing.proofs.line_text.put_entry.Tie as tie
+use Rattle.listing.specs.LineText.{lineText}
 use borrow.Author.Needs.{needs}
 
 returns : tie.Need-returns
-unfolding lineWith
+unfolding lineText
 returns c =
     let feed = c .before .before in
     let answer = feed .before .before .before .before in

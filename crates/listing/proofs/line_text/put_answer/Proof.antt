@@ -1,8 +1,8 @@
--- `lines::put_answer` meets its contract: each part is put behind the one before it.
+-- `line_text::put_answer` meets its contract: each part is put behind the one before it.
 -- Assumes nothing.
 use Rattle.listing.proofs.Putting.{_then_}
-use Rattle.listing.proofs.lines.put_answer.Statement.{statement}
-use Rattle.listing.proofs.lines.put_answer.Tie as tie
+use Rattle.listing.proofs.line_text.put_answer.Statement.{statement}
+use Rattle.listing.proofs.line_text.put_answer.Tie as tie
 use borrow.Author.Needs.{needs}
 
 returns : tie.Need-returns
@@ -10,7 +10,8 @@ returns c =
     let field = c .before .before in
     let number = field .before in
     let word = number .before .before .before .before in
-    (rw (word .before .before .before .before .answer .given .1, ← number .number .ensures) (word .put-bytes .ensures then field .put-field .ensures .0), search needs)
+    let refused = word .before .before .before .before .answer .given .1 in
+    (rw (refused, ← number .number .ensures) (word .put-bytes .ensures then field .put-field .ensures .0), search needs)
 
 returns-2 : tie.Need-returns-2
 returns-2 c =
@@ -18,7 +19,9 @@ returns-2 c =
     let forms = speed .before .before .before .before in
     let form = forms .before .before .before .before in
     let word = form .before .before .before .before in
-    (rw (word .before .before .before .before .answer2 .given .1) (word .put-bytes2 .ensures then form .put-field2 .ensures .0 then forms .put-field3 .ensures .0 then speed .put-speed .ensures .0), search needs)
+    let accepted = word .before .before .before .before .answer2 .given .1 in
+    let put = word .put-bytes2 .ensures then form .put-field2 .ensures .0 then forms .put-field3 .ensures .0 then speed .put-speed .ensures .0 in
+    (rw accepted put, search needs)
 
 pub put-answer-spec : {M : Type 1} → statement M
 put-answer-spec =

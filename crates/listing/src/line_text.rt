@@ -16,12 +16,6 @@ use working::Speed;
 // The longest log that is listed, in bytes.
 pub const LONGEST_LOG: usize = 65536;
 
-// How many figures the last line has.
-pub const END_FIGURES: usize = 8;
-
-// No line is longer than the last: `end`, its figures, each the longest number behind a blank, and a line feed.
-pub const LONGEST_LINE: usize = 3 + END_FIGURES * LONGEST_FIELD + 1;
-
 // A station's letter, and - where there is none.
 pub(crate) fn letter_at(station: u8) -> u8
     ensures { λ r. ⌜ r ≡ letterAt station ⌝ }
@@ -86,6 +80,9 @@ pub(crate) fn put_entry(
     put(block, at, b'\n')
 }
 
+// How many figures the last line has.
+pub const END_FIGURES: usize = 8;
+
 // The figures of the last line, in its order: entries, accepted, refused, vehicles present, A holds, A owes, B holds, B owes.
 pub fn end_figures(entries: usize, accepted: usize, s: Section) -> [u64; END_FIGURES]
     ensures { λ r. ⌜ r ≡ endFigures entries accepted s ⌝ }
@@ -103,6 +100,9 @@ pub fn end_figures(entries: usize, accepted: usize, s: Section) -> [u64; END_FIG
         b.owes as u64,
     ]
 }
+
+// No line is longer than the last: `end`, its figures, each the longest number behind a blank, and a line feed.
+pub const LONGEST_LINE: usize = 3 + END_FIGURES * LONGEST_FIELD + 1;
 
 // The last line: `end`, and its figures.
 pub(crate) fn put_end(block: &mut [u8], at: usize, figures: &[u64]) -> usize

@@ -1,6 +1,6 @@
 -- Where a listing stands, in words that a host lends: what listing they stand for, of any words, and what the functions on them leave.
 use Prim.Native.Nat.{_<_, _≤_, ℕ}
-use Rattle.listing.specs.Lines.{longestLine}
+use Rattle.listing.specs.LineText.{longestLine}
 use Rattle.step.specs.Lines.{begun, blockOf, largestCount}
 use Rattle.step.specs.Listings.{listingOf}
 use Rattle.step.specs.declared.lines.Listing.{Listing}

@@ -10,10 +10,13 @@ ghost use mathlib.Core.Path.{_≡_};
 mod state;
 
 use crate::state::STATE_WORDS;
+use crate::state::copy;
 use crate::state::keep;
 use crate::state::listing_at;
+use listing::END_FIGURES;
 use listing::LONGEST_LINE;
 use listing::LONGEST_LOG;
+use listing::end_figures;
 use step::Last;
 use working::Answer;
 use working::Section;
@@ -82,8 +85,9 @@ pub extern "C" fn lupin_end(log: &[u8], out: &mut [u8]) -> usize
     listing::put_last(out, 0, log.len(), ran.entries, ran.accepted, section)
 }
 
-// The eight figures of a log's last line, in its order, at the front of the numbers lent, and 8: entries, accepted, refused, vehicles present, A holds, A owes, B holds, B owes.
-// Fewer than eight numbers keep their values, and the answer is 0. So it is of a log that is too long to be listed: its last line, `long`, has no figures.
+// The figures of a log's last line, in its order, at the front of the numbers lent, and how many they are, 8: entries, accepted, refused, vehicles present, A holds, A owes,
+// B holds, B owes. Where fewer numbers are lent they keep their values, and the answer is 0. So it is of a log that is too long to be listed: its last line, `long`, has no
+// figures.
 #[no_mangle]
 pub extern "C" fn lupin_figures(log: &[u8], figures: &mut [u64]) -> usize
     ensures { λ r. ⌜ Figures (now (log .entry)) (now (figures .entry)) r (now (figures .exit)) ⌝ }
@@ -91,22 +95,14 @@ pub extern "C" fn lupin_figures(log: &[u8], figures: &mut [u64]) -> usize
     if LONGEST_LOG < log.len() {
         return 0;
     }
-    if figures.len() < 8 {
+    if figures.len() < END_FIGURES {
         return 0;
     }
     let ran = step::run(Section::fresh(), log, log.len());
     let section = ran.section;
-    let a = section.a;
-    let b = section.b;
-    figures[0] = ran.entries as u64;
-    figures[1] = ran.accepted as u64;
-    figures[2] = section.refused as u64;
-    figures[3] = section.len as u64;
-    figures[4] = a.holds as u64;
-    figures[5] = a.owes as u64;
-    figures[6] = b.holds as u64;
-    figures[7] = b.owes as u64;
-    8
+    let end = end_figures(ran.entries, ran.accepted, section);
+    copy(&end, 0, figures, 0, END_FIGURES);
+    END_FIGURES
 }
 
 // The number of a refusal, and 0 where the answer is none.

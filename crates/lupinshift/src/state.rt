@@ -27,7 +27,7 @@ const ENDED: usize = AT + 4;
 pub(crate) const STATE_WORDS: usize = AT + 5;
 
 // So many words, from a place of one slice to a place of another.
-fn copy(from: &[u64], first: usize, to: &mut [u64], at: usize, count: usize)
+pub(crate) fn copy(from: &[u64], first: usize, to: &mut [u64], at: usize, count: usize)
     requires { ⌜ (first + count ≤ length (now from)) × (at + count ≤ length (now to)) ⌝ }
     ensures { λ _. ⌜ now (to .exit) ≡ pasted (now (to .entry)) at (take count (drop first (now (from .entry)))) ⌝ }
 {

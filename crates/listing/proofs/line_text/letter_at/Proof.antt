@@ -1,7 +1,7 @@
--- `lines::letter_at` meets its contract: the tests are the definition's.
+-- `line_text::letter_at` meets its contract: the tests are the definition's.
 -- Assumes nothing.
-use Rattle.listing.proofs.lines.letter_at.Statement.{statement}
-use Rattle.listing.proofs.lines.letter_at.Tie as tie
+use Rattle.listing.proofs.line_text.letter_at.Statement.{statement}
+use Rattle.listing.proofs.line_text.letter_at.Tie as tie
 use borrow.Author.Tests.{eq-eqb, ne-eqb}
 
 returns : tie.Need-returns

@@ -1,4 +1,5 @@
 pub mod Advancing
+pub mod Becoming
 pub mod Ending
 pub mod Examples
 pub mod Filling
@@ -6,5 +7,4 @@ pub mod LastLine
 pub mod Next
 pub mod Room
 pub mod Said
-pub mod Scans
 pub mod Whole

@@ -61,10 +61,10 @@ pub record Answers (before : List ℕ) (decoded : Decoded) (given : Answer) (aft
   pub answer : given ≡ onDecoded (sectionIn before) decoded .answer
   pub words : Becomes before after (onDecoded (sectionIn before) decoded .section) (startAnswered (sectionIn before) decoded (startIn before))
 
--- what every departure does to the words: a vehicle put in, and the figures that all kinds change
+-- what every departure does to the words of a section in which x's desk is d: a vehicle put in, and the figures that all kinds change
 abbrev pub Leaves : List ℕ → Station → ℕ → Desk → Movement → ℕ → List ℕ → Type 0
 Leaves before x time d movement class after =
     Becomes before after
     (withDesk (withLine (sectionIn before) (insertAt x (vehicleFor x (nextForm d) movement class) (lineOf (sectionIn before)))) x
-    (withDeparture time (nextForm d) (d .sent + 1) (deskOf (sectionIn before) x)))
+    (withDeparture time (nextForm d) (d .sent + 1) d))
     (startOn x (startIn before) 31)

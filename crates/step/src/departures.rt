@@ -1,8 +1,10 @@
 // OPEN, THROUGH, RETURN and TRAIN: why each is refused, and else the figures that it puts and its driver's order.
 ghost use Prim.Native.Nat.{_+_, _<_};
 ghost use Rattle.step.specs.Entering.{Enters, Leaves};
+ghost use Rattle.words.specs.Words.{sectionIn};
 ghost use Rattle.working.specs.Acts as acts;
 ghost use Rattle.working.specs.Events.{At, stationOf, viewOf};
+ghost use Rattle.working.specs.Sections.{deskOf};
 ghost use mathlib.Core.Path.{_≡_};
 use crate::answers::refuse;
 use crate::fields::station_of;
@@ -36,9 +38,9 @@ use working::Station;
 use working::Vehicle;
 use working::Verdict;
 
-// A vehicle leaves on the desk's next form number, which is given: what every departure puts.
+// A vehicle leaves station `at`, whose desk is `d`, on its next form number, which is given: what every departure puts.
 fn depart(words: &mut Words, at: Station, time: u16, d: Desk, movement: Movement, class: u8) -> u16
-    requires { ⌜ (d .last < 9999) × (d .sent < 12) ⌝ }
+    requires { ⌜ (d ≡ deskOf (sectionIn (now words)) at) × (d .last < 9999) × (d .sent < 12) ⌝ }
     ensures { λ r. ⌜ (r ≡ d .last + 1) × Leaves (now (words .entry)) at time d movement class (now (words .exit)) ⌝ }
 {
     let form = d.last + 1;

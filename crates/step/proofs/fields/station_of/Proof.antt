@@ -1,7 +1,7 @@
--- `step::events::station_of` meets its contract.
+-- `step::fields::station_of` meets its contract.
 -- Assumes nothing.
-use Rattle.step.proofs.events.station_of.Statement.{statement}
-use Rattle.step.proofs.events.station_of.Tie as tie
+use Rattle.step.proofs.fields.station_of.Statement.{statement}
+use Rattle.step.proofs.fields.station_of.Tie as tie
 use borrow.Author.Tests.{eq-eqb, ne-eqb}
 
 returns : tie.Need-returns

@@ -1,7 +1,7 @@
--- `step::events::view_of` meets its contract.
+-- `step::fields::view_of` meets its contract.
 -- Assumes nothing.
-use Rattle.step.proofs.events.view_of.Statement.{statement}
-use Rattle.step.proofs.events.view_of.Tie as tie
+use Rattle.step.proofs.fields.view_of.Statement.{statement}
+use Rattle.step.proofs.fields.view_of.Tie as tie
 use borrow.Author.Tests.{eq-eqb, ne-eqb}
 
 returns : tie.Need-returns

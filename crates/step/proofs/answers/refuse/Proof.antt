@@ -1,7 +1,7 @@
--- `step::acting::refuse` meets its contract: the count is the section's one change.
+-- `answers::refuse` meets its contract: one more in the count, and nothing else.
 -- Assumes nothing.
-use Rattle.step.proofs.acting.refuse.Statement.{statement}
-use Rattle.step.proofs.acting.refuse.Tie as tie
+use Rattle.step.proofs.answers.refuse.Statement.{statement}
+use Rattle.step.proofs.answers.refuse.Tie as tie
 use borrow.Author.Needs.{needs}
 use mathlib.Core.Path.{refl}
 
@@ -9,7 +9,7 @@ count-refusal-requires : tie.Need-count-refusal-requires
 count-refusal-requires c κs = search needs
 
 returns : tie.Need-returns
-returns c = λ l. record { answer = refl; section = c .count-refusal .ensures l }
+returns c = record { answer = refl; words = c .count-refusal .ensures }
 
 pub refuse-spec : {M : Type 1} → statement M
 refuse-spec = tie.close (tie.spec count-refusal-requires returns)

@@ -1,21 +1,24 @@
 -- How the words of a section become those of the section after an act: one change of a desk after another is one change, and a plan that is refused or carried out is
 -- what the definition has of its event.
 -- Assumes nothing.
-use Prim.Native.Nat.{_<_, _≤_, ℕ}
+use Prim.Native.Nat.{_-_, _<_, _≤_, ℕ}
 use Rattle.step.specs.Entering.{Does, Enters, Refuses, startAfter, startIfAnew}
-use Rattle.words.specs.Words.{Becomes, DeskBecomes, Met, sectionIn, startIn, wordsOf}
-use Rattle.working.proofs.Plans.{depart-passes}
-use Rattle.working.proofs.Tests.{none-holds}
+use Rattle.words.specs.Words.{Becomes, DeskBecomes, Met, sectionIn, startIn, withClears, withGuest, withOut, withReceipt, wordsOf}
+use Rattle.working.proofs.Plans.{depart-passes, receive-passes}
+use Rattle.working.proofs.Tests.{none-holds, none-of-both}
 use Rattle.working.specs.Acts.{Act}
-use Rattle.working.specs.Effects.{Plan, Refuse, effectOf}
+use Rattle.working.specs.Effects.{Plan, Refuse, broughtClears, effectOf, openedClears, otherDesk}
 use Rattle.working.specs.Events.{At, Begin, Event, Meet, Resume}
-use Rattle.working.specs.Reasons.{beginTests, departTests, findOf, mayMeet, resumeTests, testsOf}
+use Rattle.working.specs.Reasons.{beginTests, departTests, findOf, mayEnter, mayMeet, receiveTests, resumeTests, stationTests, testsOf}
 use Rattle.working.specs.Refusals.{Test, firstOf}
 use Rattle.working.specs.Sections.{countRefusal, deskOf, emptied, lineOf, nearestAt, withDesk, withLine}
 use Rattle.working.specs.Steps.{entered, metAt, planOf, settled}
 use Rattle.working.specs.declared.Answer.the-variants.{Accepted}
 use Rattle.working.specs.declared.Answer.{Answer}
+use Rattle.working.specs.declared.Clears.{Clears}
 use Rattle.working.specs.declared.Desk.{Desk}
+use Rattle.working.specs.declared.Movement.the-variants.{Open, Return, Train}
+use Rattle.working.specs.declared.Movement.{Movement}
 use Rattle.working.specs.declared.Refusal.the-variants.{MayNotMeet, NotInForce}
 use Rattle.working.specs.declared.Refusal.{Refusal}
 use Rattle.working.specs.declared.Section.{Section}
@@ -26,7 +29,7 @@ use Rattle.working.specs.declared.Vehicle.{Vehicle}
 use Rattle.working.specs.declared.Verdict.the-variants.{Allowed, Refused}
 use Rattle.working.specs.declared.Verdict.{Verdict}
 use mathlib.Core.Bool.{Bool, false, not, true}
-use mathlib.Core.List.{List, [], _∷_}
+use mathlib.Core.List.{List, [], _++_, _∷_}
 use mathlib.Core.Path.{_∙_, _≡_, ap, ap₂, refl, subst, sym}
 use native.Mathlib.Omega.{arith}
 
@@ -57,6 +60,10 @@ and-desk {w} {w₁} {w₂} s x d {k} f first next =
     let whole : withDesk (sectionIn w₁) x (f (deskOf (sectionIn w₁) x)) ≡ withDesk s x (f d) = ap (λ (t : Section). withDesk t x (f (deskOf t x))) (first .section) ∙ same-desk s x d f in
     then first (becomes whole (first .start) next) (λ less. omega (arith, desk-length s x d (f d)))
 
+-- a desk that became d, by another name
+pub desk-is : {w w₁ : List ℕ} (s : Section) (x : Station) {d e : Desk} {k : ℕ} → d ≡ e → Becomes w w₁ (withDesk s x d) k → Becomes w w₁ (withDesk s x e) k
+desk-is s x same b = becomes (ap (withDesk s x) same) refl b
+
 line-desk : (s : Section) (l : List Vehicle) (x : Station) → deskOf (withLine s l) x ≡ deskOf s x
 line-desk s l A = refl
 line-desk s l B = refl
@@ -64,6 +71,9 @@ line-desk s l B = refl
 line-length : (s : Section) (l : List Vehicle) (x : Station) (d : Desk) → withDesk (withLine s l) x d .len ≡ withLine s l .len
 line-length s l A d = refl
 line-length s l B d = refl
+
+pub line-desk-is : {w w₁ : List ℕ} (s : Section) (l : List Vehicle) (x : Station) {k : ℕ} → Becomes w w₁ (withLine s l) k → deskOf (sectionIn w₁) x ≡ deskOf s x
+line-desk-is s l x b = ap (λ (t : Section). deskOf t x) (b .section) ∙ line-desk s l x
 
 -- the line is changed, and then a desk, which was d
 pub line-and-desk : {w w₁ w₂ : List ℕ} (s : Section) (l : List Vehicle) (x : Station) {d : Desk} {k : ℕ} (f : Desk → Desk) → d ≡ deskOf s x
@@ -106,6 +116,37 @@ pub departure-tested : (s : Section) (x : Station) (time : ℕ) (tests : Desk �
     → r ≡ firstOf (departTests (s .force) (deskOf s x) time (tests (deskOf s x)))
 departure-tested s x time tests {d = d} at desk force own whole =
     whole (tests d) own ∙ ap₂ (λ (f : Bool) (e : Desk). firstOf (departTests f e time (tests e))) force (desk ∙ ap (deskOf s) at)
+
+-- the same of a receipt, of the vehicle v
+pub receipt-tested : (s : Section) (x : Station) (time : ℕ) (sender : Station) (form : ℕ) {y z : Station} {d : Desk} {v : Vehicle} {f : Bool} {own r : Verdict}
+    → y ≡ x → z ≡ sender → d ≡ deskOf s y → v ≡ nearestAt y (lineOf s) → f ≡ s .force → own ≡ firstOf (receiveTests y z form v)
+    → ((ts : List Test) → own ≡ firstOf ts → r ≡ firstOf (stationTests f d time ++ ts))
+    → r ≡ firstOf (stationTests (s .force) (deskOf s x) time ++ receiveTests x sender form (nearestAt x (lineOf s)))
+receipt-tested s x time sender form {y} {z} {d} {v} {f} at from desk near force own whole = whole (receiveTests y z form v) own ∙ by
+  where
+    by : firstOf (stationTests f d time ++ receiveTests y z form v) ≡ firstOf (stationTests (s .force) (deskOf s x) time ++ receiveTests x sender form (nearestAt x (lineOf s)))
+    by = rw (force, desk, near, at, from)
+
+-- a vehicle that no test refuses may enter
+pub may-enter : (force : Bool) (d : Desk) (time : ℕ) (x sender : Station) (form : ℕ) (v : Vehicle)
+    → firstOf (stationTests force d time ++ receiveTests x sender form v) ≡ Allowed → mayEnter x v ≡ true
+may-enter force d time x sender form v passed =
+    let tests = stationTests force d time ++ receiveTests x sender form v in
+    receive-passes x sender form v (none-of-both (stationTests force d time) (receiveTests x sender form v) (none-holds tests passed) .1) .enters
+
+-- what a vehicle from the other station brings, put figure by figure, is the definition's desk, by what it left on
+module _ {d e : Desk} {time : ℕ} (class : ℕ) {m : Movement} {brought : Clears} (was : d ≡ e) where
+  pub other-open : {asked : ℕ} → m ≡ Open asked → brought ≡ openedClears (d .clears) asked
+      → withClears brought (withGuest class (withReceipt time 0 e)) ≡ otherDesk e time class m
+  other-open left is = rw (left, is, was)
+
+  pub other-return : {asked granted : ℕ} → m ≡ Return asked granted → brought ≡ broughtClears (d .clears) asked granted (d .clears .owes)
+      → withClears brought (withOut false (withReceipt time 0 e)) ≡ otherDesk e time class m
+  other-return left is = rw (left, is, was)
+
+  pub other-train : {asked granted owes : ℕ} → m ≡ Train asked granted → owes ≡ d .clears .owes - 1 → brought ≡ broughtClears (d .clears) asked granted owes
+      → withClears brought (withReceipt time 0 e) ≡ otherDesk e time class m
+  other-train left less is = rw (left, is, less, was)
 
 -- ---- BEGIN, RESUME and MEET
 
@@ -173,6 +214,11 @@ module _ (w : List ℕ) (x sender : Station) (form : ℕ) where
 
   pub meet-allowed : {w₁ : List ℕ} {given : Answer} → sectionIn w .force ≡ true → Met w w₁ x sender form true → given ≡ Accepted 0 0 NoSpeed → Enters w (Meet x sender form) given w₁
   meet-allowed on met answer = meet-by Allowed (ap₂ meetVerdict on (sym (met .may))) answer (met .words)
+
+-- whether the two met, where the code has the stations and the answer by other names
+pub met-by : {w w₁ : List ℕ} {x y sender z : Station} {form : ℕ} {b c : Bool} → y ≡ x → z ≡ sender → b ≡ c → Met w w₁ y z form b → Met w w₁ x sender form c
+met-by {w} {w₁} {x} {sender = sender} {z} {form} {b} to from is met =
+    subst (λ (d : Bool). Met w w₁ x sender form d) is (subst (λ (q : Station). Met w w₁ x q form b) from (subst (λ (q : Station). Met w w₁ q z form b) to met))
 
 -- a departure that no test refuses has a form number left, and room for one more sent
 pub may-depart : (force : Bool) (d : Desk) (time : ℕ) (own : List Test) → firstOf (departTests force d time own) ≡ Allowed → (d .last < 9999) × (d .sent < 12)

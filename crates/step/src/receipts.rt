@@ -41,8 +41,17 @@ fn arrive_own(words: &mut Words, at: Station, time: u16, d: Desk, movement: Move
     ensures { λ _. ⌜ DeskBecomes (now (words .entry)) (now (words .exit)) at (λ desk. ownDesk desk time movement) ⌝ }
 {
     put_receipt(words, at, time, lowered(d.sent));
-    if let Movement::Open { asked: _ } = movement {
-        put_out(words, at, false);
+    match movement {
+        Movement::Open { asked: _ } => put_out(words, at, false),
+        Movement::Through => {}
+        Movement::Return {
+            asked: _,
+            granted: _,
+        } => {}
+        Movement::Train {
+            asked: _,
+            granted: _,
+        } => {}
     }
 }
 

@@ -14,9 +14,13 @@ mod stepping;
 
 pub use blocks::Filled;
 pub use blocks::fill;
+pub use blocks::fill_words;
 pub use blocks::list;
+pub use lines::Listed;
 pub use lines::Listing;
+pub use lines::Put;
 pub use lines::begin;
+pub use lines::start_of;
 pub use memory::step_in;
 pub use running::Last;
 pub use running::LogEnd;

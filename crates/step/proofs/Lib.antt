@@ -5,6 +5,7 @@ pub mod Examples
 pub mod Filling
 pub mod LastLine
 pub mod Next
+pub mod Own
 pub mod Room
 pub mod Said
 pub mod Whole

@@ -1,7 +1,4 @@
-pub mod Ends
-pub mod Keeping
-pub mod Mapping
-pub mod Packing
-pub mod Padding
-pub mod Pads
-pub mod Stored
+pub mod Ring
+pub mod Slots
+pub mod Becoming
+pub mod Desks

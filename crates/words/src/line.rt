@@ -1,42 +1,50 @@
-// The vehicles present, the first `len` of the section's places, in lent words: one enters or leaves at a station's end, and two meet. Behind them every place is
-// left unused, whatever stood there, so that each function is equal to its definition on any section.
-// `let _ = &line[..];` does nothing: seen as a slice, the array shows the proof how many its words are.
-ghost use Prim.Native.Nat.{_-_, _≤_, min};
-ghost use Rattle.words.specs.Words.{sectionIn, vehicleIn, vehiclesIn};
+// The vehicles present, in a ring of slots: one enters or leaves at a station's end, and two meet. No other vehicle is moved. What lies in a slot outside the line
+// stands for nothing; a slot is made unused when its vehicle leaves, so that a section has words of its own.
+ghost use Prim.Native.Nat.{_%_, _+_, _-_, _<_, _≤_, min};
+ghost use Rattle.words.specs.Words.{Becomes, LineBecomes, Met, OwnWords, Relined, lineIn, nearestSlot, presentIn, ringIn, sectionIn, slots, startIn, startOn, vehicleAt};
 ghost use Rattle.working.specs.Reasons.{findOf, mayMeet};
-ghost use Rattle.working.specs.Sections.{emptied, insertAt, lineOf, nearestAt, padTo, removeAt, withLine};
-ghost use Rattle.working.specs.Steps.{metAt, turnAt, turned};
-ghost use lib.ListN.{drop, getD, length, set, take};
+ghost use Rattle.working.specs.Sections.{emptied, insertAt, lineOf, nearestAt, removeAt};
+ghost use Rattle.working.specs.Steps.{turnAt, turned};
 ghost use mathlib.Core.Bool.{cond};
-ghost use mathlib.Core.List.{_∷_};
 ghost use mathlib.Core.Path.{_≡_};
 use crate::figures::FORCE;
-use crate::figures::FigureWords;
 use crate::figures::LEN;
-use crate::figures::put_desk;
+use crate::figures::REFUSED;
+use crate::figures::RING;
+use crate::figures::SLOT_LENGTH;
+use crate::figures::SLOTS;
+use crate::figures::START;
+use crate::figures::WORDS;
+use crate::figures::Words;
+use crate::figures::refused;
+use crate::vehicles::first_word;
+use crate::vehicles::second_word;
 use crate::vehicles::vehicle_in;
-use crate::vehicles::vehicle_word;
 use crate::vehicles::word_if;
 use section::is_named;
 use section::is_opener;
 use section::station_number;
-use working::Desk;
 use working::Section;
 use working::Station;
 use working::Vehicle;
 
-// A word for each place.
-pub const LINE_LENGTH: usize = Section::PLACES;
+// So many slots on is one slot back.
+const ONE_BACK: usize = SLOTS - 1;
 
-pub type LineWords = [u64; LINE_LENGTH];
+// The words of a section with no vehicle and both desks as fresh.
+pub(crate) fn emptied_words(force: bool, count: u32) -> Words
+    ensures { λ r. ⌜ OwnWords r (emptied force count) ⌝ }
+{
+    let mut words = [0; WORDS];
+    words[FORCE] = word_if(force);
+    words[REFUSED] = count as u64;
+    words
+}
 
 // As many vehicles as there are places for.
-fn present_in(line: &LineWords, figures: &FigureWords) -> usize
-    ensures { λ r. ⌜ (r ≡ min (getD (now (figures .entry)) 0 0) 24) × (length (now (line .entry)) ≡ 24) × (length (now (figures .entry)) ≡ 21) ⌝ }
+pub(crate) fn fitting(len: usize) -> usize
+    ensures { λ r. ⌜ r ≡ min len 24 ⌝ }
 {
-    let _ = &line[..];
-    let _ = &figures[..];
-    let len = figures[LEN] as usize;
     if len < Section::PLACES {
         len
     } else {
@@ -44,70 +52,72 @@ fn present_in(line: &LineWords, figures: &FigureWords) -> usize
     }
 }
 
-// Every place from `from` on is made unused.
-fn blank(line: &mut LineWords, from: usize)
-    ensures { λ _. ⌜ vehiclesIn (now (line .exit)) ≡ padTo 24 (take from (vehiclesIn (now (line .entry)))) ⌝ }
+// How many vehicles are present.
+pub(crate) fn present_in(words: &Words) -> usize
+    ensures { λ r. ⌜ r ≡ presentIn (now (words .entry)) ⌝ }
 {
-    let _ = &line[..];
-    let mut i = from;
-    while i < Section::PLACES {
-        line[i] = 0;
-        i += 1;
+    fitting(words[LEN] as usize)
+}
+
+// The slot of the vehicle nearest A.
+pub(crate) fn start_in(words: &Words) -> usize
+    ensures { λ r. ⌜ r ≡ startIn (now (words .entry)) ⌝ }
+{
+    (words[START] % SLOTS as u64) as usize
+}
+
+// The vehicle in a slot.
+pub(crate) fn vehicle_at(words: &Words, slot: usize) -> Vehicle
+    requires { ⌜ slot < slots ⌝ }
+    ensures { λ r. ⌜ r ≡ vehicleAt (ringIn (now (words .entry))) slot ⌝ }
+{
+    let first = SLOT_LENGTH * slot;
+    vehicle_in(words[RING + first], words[RING + (first + 1)])
+}
+
+// A vehicle is put into a slot, and so many are then present, from a start on. Seen as a slice, the array shows the proof how many its words are.
+fn reline(words: &mut Words, slot: usize, v: Vehicle, present: usize, start: usize)
+    requires { ⌜ slot < slots ⌝ }
+    ensures { λ _. ⌜ Relined (now (words .entry)) (now (words .exit)) slot v present start ⌝ }
+{
+    let _ = &words[..];
+    let movement = v.movement;
+    let first = SLOT_LENGTH * slot;
+    words[RING + first] = first_word(v);
+    words[RING + (first + 1)] = second_word(movement);
+    words[LEN] = present as u64;
+    words[START] = start as u64;
+}
+
+// A slot so many on from the ring's start at A's end, and the same at B's.
+fn start_on(at: Station, start: usize, n: usize) -> usize
+    requires { ⌜ (start < slots) × (n < slots) ⌝ }
+    ensures { λ r. ⌜ (r ≡ startOn at start n) × (r < slots) ⌝ }
+{
+    match at {
+        Station::A => (start + n) % SLOTS,
+        Station::B => start,
     }
 }
 
-// A vehicle stands nearest A, and every other one place on towards B.
-fn put_first(line: &mut LineWords, word: u64)
-    ensures { λ _. ⌜ vehiclesIn (now (line .exit)) ≡ padTo 24 (vehicleIn word ∷ vehiclesIn (now (line .entry))) ⌝ }
+// The slot of the vehicle nearest a station, of so many from a start on.
+fn nearest_slot(at: Station, start: usize, present: usize) -> usize
+    requires { ⌜ (start < slots) × (present < slots) ⌝ }
+    ensures { λ r. ⌜ (r ≡ nearestSlot at start present) × (r < slots) ⌝ }
 {
-    let _ = &line[..];
-    let mut next = word;
-    let mut i = 0;
-    while i < Section::PLACES {
-        let here = line[i];
-        line[i] = next;
-        next = here;
-        i += 1;
-    }
-}
-
-// The vehicle nearest A is gone, and every other one place on towards A.
-fn drop_first(line: &mut LineWords)
-    ensures { λ _. ⌜ vehiclesIn (now (line .exit)) ≡ padTo 24 (drop 1 (vehiclesIn (now (line .entry)))) ⌝ }
-{
-    let _ = &line[..];
-    let mut next = 0;
-    let mut i = Section::PLACES;
-    while 0 < i {
-        i -= 1;
-        let here = line[i];
-        line[i] = next;
-        next = here;
-    }
-}
-
-// A vehicle stands at place `i`; past the end nothing is stored.
-fn put_at(line: &mut LineWords, i: usize, word: u64)
-    ensures { λ _. ⌜ vehiclesIn (now (line .exit)) ≡ set (vehiclesIn (now (line .entry))) i (vehicleIn word) ⌝ }
-{
-    let _ = &line[..];
-    if i < Section::PLACES {
-        line[i] = word;
+    match at {
+        Station::A => start,
+        Station::B => (start + present + ONE_BACK) % SLOTS,
     }
 }
 
 // One more vehicle, at a station's end.
-pub fn insert(line: &mut LineWords, figures: &mut FigureWords, at: Station, v: Vehicle)
-    ensures { λ _. ⌜ (let s = sectionIn (now (line .entry)) (now (figures .entry)) in sectionIn (now (line .exit)) (now (figures .exit)) ≡ withLine s (insertAt at v (lineOf s))) ⌝ }
+pub fn insert(words: &mut Words, at: Station, v: Vehicle)
+    ensures { λ _. ⌜ LineBecomes (now (words .entry)) (now (words .exit)) (insertAt at v) (λ start. startOn at start 31) ⌝ }
 {
-    let present = present_in(line, figures);
-    let word = vehicle_word(v);
-    figures[LEN] = (present + 1) as u64;
-    blank(line, present);
-    match at {
-        Station::A => put_first(line, word),
-        Station::B => put_at(line, present, word),
-    }
+    let present = present_in(words) + 1;
+    let start = start_on(at, start_in(words), ONE_BACK);
+    reline(words, nearest_slot(at, start, present), v, present, start);
 }
 
 // One less, and not below 0.
@@ -117,34 +127,38 @@ fn fewer(n: usize) -> usize
     if 0 < n { n - 1 } else { 0 }
 }
 
-// The vehicle at a station's end is gone.
-pub fn remove(line: &mut LineWords, figures: &mut FigureWords, at: Station)
-    ensures { λ _. ⌜ (let s = sectionIn (now (line .entry)) (now (figures .entry)) in sectionIn (now (line .exit)) (now (figures .exit)) ≡ withLine s (removeAt at (lineOf s))) ⌝ }
+// The vehicle at a station's end is gone, and its slot unused.
+pub fn remove(words: &mut Words, at: Station)
+    ensures { λ _. ⌜ LineBecomes (now (words .entry)) (now (words .exit)) (removeAt at) (λ start. startOn at start 1) ⌝ }
 {
-    let present = present_in(line, figures);
-    let left = fewer(present);
-    figures[LEN] = left as u64;
-    match at {
-        Station::A => {
-            blank(line, present);
-            drop_first(line)
-        }
-        Station::B => blank(line, left),
-    }
+    let present = present_in(words);
+    let start = start_in(words);
+    reline(
+        words,
+        nearest_slot(at, start, present),
+        Vehicle::unused(),
+        fewer(present),
+        start_on(at, start, 1),
+    );
 }
 
 // The vehicle nearest a station, or the unused place where there is none.
-pub fn nearest(line: &LineWords, figures: &FigureWords, at: Station) -> Vehicle
-    ensures { λ r. ⌜ r ≡ nearestAt at (lineOf (sectionIn (now (line .entry)) (now (figures .entry)))) ⌝ }
+pub fn nearest(words: &Words, at: Station) -> Vehicle
+    ensures { λ r. ⌜ r ≡ nearestAt at (lineOf (sectionIn (now (words .entry)))) ⌝ }
 {
-    let present = present_in(line, figures);
+    let present = present_in(words);
     if present == 0 {
         return Vehicle::unused();
     }
-    match at {
-        Station::A => vehicle_in(line[0]),
-        Station::B => vehicle_in(line[present - 1]),
-    }
+    vehicle_at(words, nearest_slot(at, start_in(words), present))
+}
+
+// The slot of place `i` of the line.
+pub(crate) fn slot_of(words: &Words, i: usize) -> usize
+    requires { ⌜ i < slots ⌝ }
+    ensures { λ r. ⌜ r ≡ (startIn (now (words .entry)) + i) % slots ⌝ }
+{
+    (start_in(words) + i) % SLOTS
 }
 
 // `i` where `found`, else `later`: the place that a search from B's end has found so far.
@@ -155,33 +169,33 @@ fn place_if(found: bool, i: usize, later: usize) -> usize
 }
 
 // The place of the vehicle named, nearest A first, or the length of the line where it is not present.
-pub fn find(line: &LineWords, figures: &FigureWords, sender: Station, form: u16) -> usize
-    ensures { λ r. ⌜ r ≡ findOf sender form (lineOf (sectionIn (now (line .entry)) (now (figures .entry)))) ⌝ }
+fn find(words: &Words, sender: Station, form: u16) -> usize
+    ensures { λ r. ⌜ r ≡ findOf sender form (lineIn (now (words .entry))) ⌝ }
 {
-    let present = present_in(line, figures);
+    let present = present_in(words);
     let mut found = present;
     let mut i = present;
     while 0 < i {
         i -= 1;
-        found = place_if(is_named(sender, form, vehicle_in(line[i])), i, found);
+        found = place_if(
+            is_named(sender, form, vehicle_at(words, slot_of(words, i))),
+            i,
+            found,
+        );
     }
     found
 }
 
 // Whether the vehicle at place `i` and its neighbour towards B may meet: both present, OPEN or THROUGH, and heading towards one another.
-pub fn may_meet(line: &LineWords, figures: &FigureWords, i: usize) -> bool
-    ensures { λ r. ⌜ r ≡ mayMeet (lineOf (sectionIn (now (line .entry)) (now (figures .entry)))) i ⌝ }
+fn may_meet(words: &Words, i: usize) -> bool
+    requires { ⌜ i ≤ 24 ⌝ }
+    ensures { λ r. ⌜ r ≡ mayMeet (lineIn (now (words .entry))) i ⌝ }
 {
-    let present = present_in(line, figures);
-    if present <= i {
+    if present_in(words) <= i + 1 {
         return false;
     }
-    let next = i + 1;
-    if present <= next {
-        return false;
-    }
-    let v = vehicle_in(line[i]);
-    let w = vehicle_in(line[next]);
+    let v = vehicle_at(words, slot_of(words, i));
+    let w = vehicle_at(words, slot_of(words, i + 1));
     let left_on = v.movement;
     let other_left_on = w.movement;
     (v.heading == 2) & (w.heading == 1) & is_opener(left_on) & is_opener(other_left_on)
@@ -197,41 +211,34 @@ fn turned(v: Vehicle, to: Station) -> Vehicle
     after
 }
 
-// The vehicle at place `i`, where it is one of the first `len`, is turned.
-fn turn(line: &mut LineWords, len: usize, i: usize, to: Station)
-    requires { ⌜ len ≤ 24 ⌝ }
-    ensures { λ _. ⌜ vehiclesIn (now (line .exit)) ≡ padTo 24 (turnAt to i (take len (vehiclesIn (now (line .entry))))) ⌝ }
+// The vehicle at place `i` is turned.
+fn turn(words: &mut Words, i: usize, to: Station)
+    requires { ⌜ i < presentIn (now words) ⌝ }
+    ensures { λ _. ⌜ LineBecomes (now (words .entry)) (now (words .exit)) (turnAt to i) (λ start. start) ⌝ }
 {
-    let _ = &line[..];
-    blank(line, len);
-    if i < len {
-        let v = turned(vehicle_in(line[i]), to);
-        line[i] = vehicle_word(v);
-    }
+    let present = present_in(words);
+    let start = start_in(words);
+    let slot = slot_of(words, i);
+    let v = turned(vehicle_at(words, slot), to);
+    reline(words, slot, v, present, start);
 }
 
-// The vehicle at place `i` and its neighbour towards B have met, and both head to a station.
-pub fn meet(line: &mut LineWords, figures: &mut FigureWords, to: Station, i: usize)
-    ensures { λ _. ⌜ (let s = sectionIn (now (line .entry)) (now (figures .entry)) in sectionIn (now (line .exit)) (now (figures .exit)) ≡ withLine s (metAt to i (lineOf s))) ⌝ }
+// The vehicle named and its neighbour towards B meet and then both head to a station, if they may; says whether they did.
+pub fn meet(words: &mut Words, to: Station, sender: Station, form: u16) -> bool
+    ensures { λ r. ⌜ Met (now (words .entry)) (now (words .exit)) to sender form r ⌝ }
 {
-    let present = present_in(line, figures);
-    figures[LEN] = present as u64;
-    if present <= i {
-        blank(line, present);
-        return;
+    let i = find(words, sender, form);
+    let may = may_meet(words, i);
+    if may {
+        turn(words, i, to);
+        turn(words, i + 1, to);
     }
-    turn(line, present, i, to);
-    turn(line, present, i + 1, to);
+    may
 }
 
 // No vehicle is present, and both desks are as fresh; in force or not.
-pub fn empty(line: &mut LineWords, figures: &mut FigureWords, force: bool)
-    ensures { λ _. ⌜ sectionIn (now (line .exit)) (now (figures .exit)) ≡ emptied force (sectionIn (now (line .entry)) (now (figures .entry)) .refused) ⌝ }
+pub fn empty(words: &mut Words, force: bool)
+    ensures { λ _. ⌜ Becomes (now (words .entry)) (now (words .exit)) (emptied force (sectionIn (now (words .entry)) .refused)) 0 ⌝ }
 {
-    let _ = &figures[..];
-    blank(line, 0);
-    figures[LEN] = 0;
-    figures[FORCE] = word_if(force);
-    put_desk(figures, Station::A, Desk::fresh());
-    put_desk(figures, Station::B, Desk::fresh());
+    *words = emptied_words(force, refused(words));
 }

@@ -1,62 +1,22 @@
--- `words::line::empty` meets its contract: every place is made unused, and each figure but the count of refusals is stored as fresh.
--- Assumes nothing.
-use Rattle.words.proofs.Ends.{emptied-in}
+use borrow.Author.Needs.{needs}
 use Rattle.words.proofs.line.empty.Statement.{statement}
 use Rattle.words.proofs.line.empty.Tie as tie
-use Rattle.working.specs.Sections.{withDesk}
-use Rattle.working.specs.declared.Desk.{Desk}
-use Rattle.working.specs.declared.Section.{Section}
-use Rattle.working.specs.declared.Station.the-variants.{B}
-use borrow.Author.Needs.{needs}
-use lib.ListN.{length}
-use mathlib.Core.Path.{_∙_, _≡_, ap₂}
+use Rattle.words.proofs.line.empty.Reads as reads
+use Rattle.words.proofs.line.empty.Lts as lts
+use Rattle.words.proofs.figures.refused.Reads as refused-reads
+use Rattle.words.proofs.line.emptied_words.Reads as emptied-words-reads
 
-blank-requires : tie.Need-blank-requires
-blank-requires c κs = search needs
+-- src/line.rt:233:35
+refused-requires : tie.Need-refused-requires
+refused-requires c κs = search needs
 
-element-write-figures : tie.Need-element-write-figures
-element-write-figures c = search needs
+-- src/line.rt:233:14
+emptied-words-requires : tie.Need-emptied-words-requires
+emptied-words-requires c κs = search needs
 
-word-if-requires : tie.Need-word-if-requires
-word-if-requires c κs = search needs
-
-element-write-figures-2 : tie.Need-element-write-figures-2
-element-write-figures-2 c = search needs
-
-fresh-requires : tie.Need-fresh-requires
-fresh-requires c κs = search needs
-
-put-desk-requires : tie.Need-put-desk-requires
-put-desk-requires c κs = search needs
-
-fresh-requires-2 : tie.Need-fresh-requires-2
-fresh-requires-2 c κs = search needs
-
-put-desk-requires-2 : tie.Need-put-desk-requires-2
-put-desk-requires-2 c κs = search needs
-
+-- src/line.rt:230:1
 returns : tie.Need-returns
-returns c =
-    let first = c .before .before .before in
-    let force = first .before .before .before in
-    let blank = force .before .blank in
-    let a = force .before .before .before .before .before .args in
-    let line = blank .last .0 in
-    let long : length (a .figures .now) ≡ 21 = search needs in
-    c .put-desk2 .ensures line
-    ∙ ap₂ (λ (s : Section) (d : Desk). withDesk s B d) (first .put-desk .ensures line) (c .before .fresh2 .ensures)
-    ∙ rw (first .before .fresh .ensures, force .word-if .ensures) (emptied-in (a .line .now) (a .figures .now) line (a .force) long (blank .ensures))
+returns c = ?
 
 pub empty-spec : {M : Type 1} → statement M
-empty-spec =
-    tie.close
-    (tie.spec
-    blank-requires
-    element-write-figures
-    word-if-requires
-    element-write-figures-2
-    fresh-requires
-    put-desk-requires
-    fresh-requires-2
-    put-desk-requires-2
-    returns)
+empty-spec = tie.close (tie.spec refused-requires emptied-words-requires returns)

@@ -1,75 +1,57 @@
--- `words::line::remove` meets its contract: the line's places without the first, or with the last used made unused, and one vehicle less.
--- Assumes nothing.
-use Rattle.words.proofs.Ends.{leaves-A, leaves-B, relined}
-use Rattle.words.proofs.Mapping.{places-length}
+use borrow.Author.Needs.{needs}
 use Rattle.words.proofs.line.remove.Statement.{statement}
 use Rattle.words.proofs.line.remove.Tie as tie
-use Rattle.words.specs.Words.{sectionIn, vehiclesIn}
-use Rattle.working.specs.Sections.{removeAt}
-use Rattle.working.specs.declared.Station.the-variants.{A, B}
-use borrow.Author.Needs.{needs}
-use lib.ListN.{getD, take}
-use mathlib.Core.Path.{_∙_}
+use Rattle.words.proofs.line.remove.Reads as reads
+use Rattle.words.proofs.line.remove.Lts as lts
+use Rattle.words.proofs.line.fewer.Reads as fewer-reads
+use Rattle.words.proofs.line.nearest_slot.Reads as nearest-slot-reads
+use Rattle.words.proofs.line.present_in.Reads as present-in-reads
+use Rattle.words.proofs.line.reline.Reads as reline-reads
+use Rattle.words.proofs.line.start_in.Reads as start-in-reads
+use Rattle.words.proofs.line.start_on.Reads as start-on-reads
+use Rattle.working.proofs.Vehicle.unused.Reads as unused-reads
 
+-- src/line.rt:134:9
 present-in-requires : tie.Need-present-in-requires
 present-in-requires c κs = search needs
 
+-- src/line.rt:135:9
+start-in-requires : tie.Need-start-in-requires
+start-in-requires c κs = search needs
+
+-- src/line.rt:136:19
+nearest-slot-requires : tie.Need-nearest-slot-requires
+nearest-slot-requires c κs = search needs
+
+-- src/line.rt:136:53
+unused-requires : tie.Need-unused-requires
+unused-requires c κs = search needs
+
+-- src/line.rt:136:72
 fewer-requires : tie.Need-fewer-requires
 fewer-requires c κs = search needs
 
-element-write-figures : tie.Need-element-write-figures
-element-write-figures c = search needs
+-- src/line.rt:136:88
+start-on-requires : tie.Need-start-on-requires
+start-on-requires c κs = search needs
 
-enum-told : tie.Need-enum-told
-enum-told c = search needs
+-- src/line.rt:136:5
+reline-requires : tie.Need-reline-requires
+reline-requires c κs = search needs
 
-blank-requires : tie.Need-blank-requires
-blank-requires c κs = search needs
-
-drop-first-requires : tie.Need-drop-first-requires
-drop-first-requires c κs = search needs
-
-enum-told-2 : tie.Need-enum-told-2
-enum-told-2 c = search needs
-
-blank-requires-2 : tie.Need-blank-requires-2
-blank-requires-2 c κs = search needs
-
+-- src/line.rt:131:1
 returns : tie.Need-returns
-unfolding sectionIn
-returns c =
-    let fewer = c .before .before .before .before .before .before in
-    let present = fewer .before .present-in .ensures in
-    let a = fewer .before .before .before .before .args in
-    let places = vehiclesIn (a .line .now) in
-    let len = getD (a .figures .now) 0 0 in
-    rw (c .before .before .before .before .enum-told .given .1)
-    (relined (a .line .now) (a .figures .now) (c .drop-first .last .0) (removeAt A (take len places)) (present .2)
-    (leaves-A places len (places-length (a .line .now) ∙ present .1) (present .0) (c .before .before .blank .ensures) (c .drop-first .ensures) (fewer .fewer .ensures)))
-
-returns-2 : tie.Need-returns-2
-unfolding sectionIn
-returns-2 c =
-    let fewer = c .before .before .before .before in
-    let present = fewer .before .present-in .ensures in
-    let a = fewer .before .before .before .before .args in
-    let places = vehiclesIn (a .line .now) in
-    let len = getD (a .figures .now) 0 0 in
-    rw (c .before .before .enum-told2 .given .1)
-    (relined (a .line .now) (a .figures .now) (c .blank2 .last .0) (removeAt B (take len places)) (present .2)
-    (leaves-B places len (places-length (a .line .now) ∙ present .1) (present .0) (c .blank2 .ensures) (fewer .fewer .ensures)))
+returns c = ?
 
 pub remove-spec : {M : Type 1} → statement M
 remove-spec =
     tie.close
     (tie.spec
     present-in-requires
+    start-in-requires
+    nearest-slot-requires
+    unused-requires
     fewer-requires
-    element-write-figures
-    enum-told
-    blank-requires
-    drop-first-requires
-    enum-told-2
-    blank-requires-2
-    returns
-    returns-2)
+    start-on-requires
+    reline-requires
+    returns)

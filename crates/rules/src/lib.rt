@@ -1,9 +1,25 @@
-// What a station's act comes to, decided from its own desk and the vehicle nearest it: the tests in document 01's order, the desk after it,
-// and the order that a departing driver gets.
-mod desks;
+// Document 01's rules for a station's act, decided from its own desk and the vehicle nearest it: why it is refused, what its desk holds and owes after it,
+// and the order that a departing driver gets. Each function is equal to a definition of `working`.
+mod clears;
 mod orders;
-mod plans;
-mod tests;
+mod reasons;
 
+pub use clears::brought_clears;
+pub use clears::lowered;
+pub use clears::opened_clears;
+pub use clears::return_clears;
+pub use clears::train_clears;
+pub use orders::OPEN_FORMS;
+pub use orders::THROUGH_FORMS;
+pub use orders::clear_forms;
+pub use orders::open_speed;
+pub use orders::train_speed;
 pub use orders::vehicle_for;
-pub use plans::plan;
+pub use reasons::act_verdict;
+pub use reasons::begin_verdict;
+pub use reasons::departure_verdict;
+pub use reasons::open_verdict;
+pub use reasons::receive_verdict;
+pub use reasons::resume_verdict;
+pub use reasons::return_verdict;
+pub use reasons::train_verdict;

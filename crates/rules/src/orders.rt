@@ -10,6 +10,11 @@ use working::Station;
 use working::Vehicle;
 use working::View;
 
+// The forms of an OPEN, and of a THROUGH.
+pub const OPEN_FORMS: u16 = 7;
+
+pub const THROUGH_FORMS: u16 = 1;
+
 // The vehicle that leaves station `at`: it heads to the other, unmet.
 pub fn vehicle_for(at: Station, form: u16, movement: Movement, class: u8) -> Vehicle
     ensures { λ r. ⌜ r ≡ vehicleFor at form movement class ⌝ }
@@ -25,7 +30,7 @@ pub fn vehicle_for(at: Station, form: u16, movement: Movement, class: u8) -> Veh
 }
 
 // OPEN and THROUGH.
-pub(crate) fn open_speed(view: View) -> Speed
+pub fn open_speed(view: View) -> Speed
     ensures { λ r. ⌜ r ≡ openSpeed view ⌝ }
 {
     match view {
@@ -47,7 +52,7 @@ fn follow_speed(view: View) -> Speed
 }
 
 // A train: booked where none of the station's was counted before it.
-pub(crate) fn train_speed(booked: bool, view: View) -> Speed
+pub fn train_speed(booked: bool, view: View) -> Speed
     ensures { λ r. ⌜ r ≡ trainSpeed booked view ⌝ }
 {
     if booked {
@@ -75,7 +80,7 @@ fn form_by(test: bool, form: u16, otherwise: u16) -> u16
 }
 
 // The forms of a RETURN or a TRAIN.
-pub(crate) fn clear_forms(at: Station, booked: bool, asked: u8, granted: u8) -> u16
+pub fn clear_forms(at: Station, booked: bool, asked: u8, granted: u8) -> u16
     ensures { λ r. ⌜ r ≡ clearForms at booked asked granted ⌝ }
 {
     let way = way_form(at);

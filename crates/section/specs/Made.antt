@@ -65,9 +65,9 @@ deskMadeWith d t =
     ∷ leb (d .sent) 12
     ∷ leb (t .count) (d .sent)
     ∷ leb (d .guest) 5
-    ∷ leb (d .asked) 8
-    ∷ leb (d .holds) 8
-    ∷ leb (d .owes) 8
+    ∷ leb (d .clears .asked) 8
+    ∷ leb (d .clears .holds) 8
+    ∷ leb (d .clears .owes) 8
     ∷ notLater (d .interval) (d .clock)
     ∷ t .numbered
     ∷ [])

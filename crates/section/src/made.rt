@@ -145,12 +145,13 @@ fn desk_made(d: Desk, t: Tally) -> bool
     ensures { λ r. ⌜ r ≡ deskMadeWith d t ⌝ }
 {
     let interval = d.interval;
+    let held = d.clears;
     let sent = (d.last <= Desk::LAST_FORM) & (d.sent <= Desk::MOST_SENT) & (t.count <= d.sent);
     let most = Desk::MOST_TRAINS;
     let clears = (d.guest <= Vehicle::LAST_CLASS)
-        & (d.asked <= most)
-        & (d.holds <= most)
-        & (d.owes <= most);
+        & (held.asked <= most)
+        & (held.holds <= most)
+        & (held.owes <= most);
     sent & clears & is_not_later(interval, d.clock) & t.numbered
 }
 
@@ -167,8 +168,9 @@ fn is_fresh(d: Desk) -> bool
     ensures { λ r. ⌜ r ≡ isFreshDesk d ⌝ }
 {
     let interval = d.interval;
+    let held = d.clears;
     let unused = (d.clock == 0) & (d.last == 0) & (d.sent == 0) & is_stopped(interval);
-    let clears = (d.guest == 0) & (d.asked == 0) & (d.holds == 0) & (d.owes == 0);
+    let clears = (d.guest == 0) & (held.asked == 0) & (held.holds == 0) & (held.owes == 0);
     unused & !d.out & clears
 }
 

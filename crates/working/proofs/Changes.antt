@@ -1,7 +1,7 @@
 -- What a step comes to, by cases, and that it leaves a well-made section well made, whatever the bytes.
 -- A refusal counts; BEGIN and RESUME empty the section; a departure puts a vehicle in at the station's end; a receipt takes one out there; MEET turns two.
 -- Assumes nothing.
-use Prim.Native.Nat.{_<_, suc, ℕ}
+use Prim.Native.Nat.{ℕ, _<_, suc}
 use Rattle.working.proofs.Line.{nearest-insert, remove-insert, split-end}
 use Rattle.working.proofs.Made.{Well, length-padTo, made-of, shape-of, shape-rest, well-far, well-insert, well-of, well-own}
 use Rattle.working.proofs.Meeting.{turn-left-on, well-turn}
@@ -9,24 +9,20 @@ use Rattle.working.proofs.Plans.{Departs, Fate, arrives, departs, fate,
 use Rattle.working.proofs.Ranges.{Ranged, ranged-of}
 use Rattle.working.proofs.Receipts.{arrives-far, arrives-own}
 use Rattle.working.proofs.Tests.{NoneHolds, and, both, each-holds, false-true, none-holds, or-intro}
+use Rattle.working.specs.Acts as acts
+use Rattle.working.specs.Acts.{Act}
 use Rattle.working.specs.Departures.{departureBy}
-use Rattle.working.specs.Effects.{arriveDesk, otherDesk, ownDesk, vehicleFor}
+use Rattle.working.specs.Effects.{Arrive, Depart, Departing, Plan, arriveDesk, otherDesk, ownDesk}
 use Rattle.working.specs.Entries.{every}
-use Rattle.working.specs.Events.{Bad, Decoded, Says, decode}
+use Rattle.working.specs.Events.{At, Bad, Begin, Decoded, Event, Meet, Resume, Says, decode}
 use Rattle.working.specs.Reasons.{beginTests, findOf, isNamed, mayEnter, mayMeet, meetTests, meetingTests, resumeTests}
-use Rattle.working.specs.Refusals.{firstOf}
+use Rattle.working.specs.Refusals.{Test, firstOf}
 use Rattle.working.specs.Sections.{countRefusal, deskOf, emptied, insertAt, lineOf, nearestAt, numberAt, otherAt, padTo, removeAt, unused, withDesk, withLine}
 use Rattle.working.specs.Steps.{accepted, doneBy, entered, metAt, onDecoded, planOf, refused, settled, stepOf, turnAt}
 use Rattle.working.specs.WellMade.{isFrom, isOpener, movementTests, shaped, wellMade}
-use Rattle.working.specs.declared.Act.the-variants.{Receives}
-use Rattle.working.specs.declared.Act.{Act}
 use Rattle.working.specs.declared.Answer.the-variants.{Accepted}
 use Rattle.working.specs.declared.Desk.{Desk}
-use Rattle.working.specs.declared.Event.the-variants.{At, Begin, Meet, Resume}
-use Rattle.working.specs.declared.Event.{Event}
 use Rattle.working.specs.declared.Movement.{Movement}
-use Rattle.working.specs.declared.Plan.the-variants.{Arrive, Depart}
-use Rattle.working.specs.declared.Plan.{Plan}
 use Rattle.working.specs.declared.Refusal.{Refusal}
 use Rattle.working.specs.declared.Section.{Section}
 use Rattle.working.specs.declared.Speed.the-variants.{NoSpeed}
@@ -60,16 +56,15 @@ well-at s x g = well-of s x (g .places) (g .well)
 pub data Change (s : Section) : Decoded → Stepped → Type 0 where
   refusal : (e : Decoded) (why : Refusal) → Change s e (refused s why)
   emptying : (e : Decoded) (force : Bool) → departureBy e (Accepted 0 0 NoSpeed) ≡ Option.none → Change s e (accepted (emptied force (s .refused)))
-  departure : (x : Station) (time : ℕ) (act : Act) {d : Desk} {m : Movement} {class forms : ℕ} {speed : Speed} → s .force ≡ true
-      → Departs act x (deskOf s x) d m class forms speed
-      → Change s (Says (At x time act)) (doneBy s x (Depart d m class forms speed))
+  departure : (x : Station) (time : ℕ) (act : Act) {p : Departing} → s .force ≡ true → Departs act x (deskOf s x) p
+      → Change s (Says (At x time act)) (doneBy s x (Depart p))
   arrival : (x : Station) (time : ℕ) (y : Station) (n : ℕ) → s .force ≡ true
       → isNamed y n (nearestAt x (lineOf s)) ≡ true → mayEnter x (nearestAt x (lineOf s)) ≡ true
-      → Change s (Says (At x time (Receives y n))) (doneBy s x (Arrive (arriveDesk x (deskOf s x) time (nearestAt x (lineOf s)))))
+      → Change s (Says (At x time (acts.Receive y n))) (doneBy s x (Arrive (arriveDesk x (deskOf s x) time (nearestAt x (lineOf s)))))
   meeting : (x y : Station) (n i : ℕ) → s .force ≡ true → mayMeet (lineOf s) i ≡ true
       → Change s (Says (Meet x y n)) (accepted (withLine s (metAt x i (lineOf s))))
 
-settled-elim : (s : Section) (P : Stepped → Type 0) (tests : List (Bool × Refusal)) (t : Section)
+settled-elim : (s : Section) (P : Stepped → Type 0) (tests : List Test) (t : Section)
     → ((why : Refusal) → P (refused s why)) → (NoneHolds tests → P (accepted t)) → P (settled s (firstOf tests) t)
 settled-elim s P tests t refuse ok = go (firstOf tests) refl
   where
@@ -119,15 +114,11 @@ sound-with s x e l f w = record { places = places x; well = made-of s x e l f w 
     places A = length-padTo 24 l
     places B = length-padTo 24 l
 
-shape-for : (x : Station) (n : ℕ) (m : Movement) (class : ℕ) → every (movementTests m class) ≡ true → shaped (vehicleFor x n m class) ≡ true
-shape-for A n m class h = and (isOpener m || true) _ (or-intro (isOpener m) true refl) (rw h)
-shape-for B n m class h = and (isOpener m || true) _ (or-intro (isOpener m) true refl) (rw h)
-
-pub well-depart : (s : Section) (act : Act) (x : Station) (e : Desk) (m : Movement) (class forms : ℕ) (speed : Speed) → Sound s
-    → Departs act x (deskOf s x) e m class forms speed → Well x e (deskOf s (otherAt x)) (insertAt x (vehicleFor x (e .last) m class) (lineOf s))
-well-depart s act x e m class forms speed g p =
-    well-insert x (deskOf s x) (deskOf s (otherAt x)) e (vehicleFor x (e .last) m class) (lineOf s) (well-at s x g)
-    refl (p .last) (shape-for x (e .last) m class (p .shape)) (p .last) (p .sent) (p .room) (p .unused) (p .bounds)
+pub well-depart : (s : Section) (act : Act) (x : Station) (p : Departing) → Sound s → Departs act x (deskOf s x) p
+    → Well x (p .desk) (deskOf s (otherAt x)) (insertAt x (p .vehicle) (lineOf s))
+well-depart s act x p g q =
+    well-insert x (deskOf s x) (deskOf s (otherAt x)) (p .desk) (p .vehicle) (lineOf s) (well-at s x g)
+    (q .sender) (q .form) (q .shape) (q .last) (q .sent) (q .room) (q .unused) (q .bounds)
 
 -- the vehicle that a RECEIVE names is there
 pub named-there : (y : Station) (n : ℕ) (x : Station) (l : List Vehicle) → isNamed y n (nearestAt x l) ≡ true → 0 < length l
@@ -210,8 +201,7 @@ sound-refused s g = record { places = g .places; well = g .well }
 sound-change : (s : Section) (e : Decoded) (r : Stepped) → Sound s → Change s e r → Sound (r .section)
 sound-change s e r g (refusal k why) = sound-refused s g
 sound-change s e r g (emptying k force n) = sound-emptied force (s .refused)
-sound-change s e r g (departure x time act {d} {m} {class} {forms} {speed} f p) =
-    sound-with s x d (insertAt x (vehicleFor x (d .last) m class) (lineOf s)) f (well-depart s act x d m class forms speed g p)
+sound-change s e r g (departure x time act {p} f q) = sound-with s x (p .desk) (insertAt x (p .vehicle) (lineOf s)) f (well-depart s act x p g q)
 sound-change s e r g (arrival x time y n f named may) = sound-arrive s x time y n g f named may
 sound-change s e r g (meeting x y n i f h) = sound-meet s x i g f h
 

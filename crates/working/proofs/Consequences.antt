@@ -1,12 +1,13 @@
 -- What each clause of demand 3 says of lists that are written out, drawn from the theorem. A clause gives first a fact of every list, over figures that nothing
 -- computes, so that a weaker clause does not give it; then come lists with document 01's figures in numbers.
 -- Assumes nothing.
-use Prim.Native.Nat.{_%_, _+_, _<_, ℕ}
+use Prim.Native.Nat.{ℕ, _%_, _+_, _<_}
 use Rattle.working.proofs.Demand3.{demand3}
 use Rattle.working.proofs.Lists.{Todo, after, done, runs}
-use Rattle.working.proofs.Literals.{begin, opens, plain, receive, resume, returns, returnsAsking, sameSection, through, train, trainGranting, vehicle, working, figures}
+use Rattle.working.proofs.Literals.{begin, figures, opens, plain, receive, resume, returns, returnsAsking, sameSection, through, train, trainGranting, vehicle, working}
 use Rattle.working.proofs.Swap.{isReceive}
 use Rattle.working.proofs.Tests.{both, false-true}
+use Rattle.working.specs.Acts as acts
 use Rattle.working.specs.Demand3.{onTheWayTo, trainsOf, vehicleAt}
 use Rattle.working.specs.Departures.{Departure, Kind, OPEN, RETURN, THROUGH, TRAIN, departureOf, kindIn, leftSlowly}
 use Rattle.working.specs.Effects.{isSlow}
@@ -16,7 +17,6 @@ use Rattle.working.specs.Runs.{Done, Form, Run, byValue, inPlace, result
 use Rattle.working.specs.Sections.{deskOf, emptied, fresh, freshDesk, numberAt, otherAt, padTo}
 use Rattle.working.specs.Steps.{entered, stepOf}
 use Rattle.working.specs.WellMade.{wellMade}
-use Rattle.working.specs.declared.Act.the-variants.{Opens, Receives, Runs}
 use Rattle.working.specs.declared.Answer.the-variants.{Accepted, Refused}
 use Rattle.working.specs.declared.Answer.{Answer}
 use Rattle.working.specs.declared.Interval.the-variants.{Since, Stopped}
@@ -221,16 +221,16 @@ record Balance : Type 0 where
 abbrev balanceOf : List Todo → Station → Balance
 balanceOf l x = record {
   force = after fresh l .force;
-  owes = deskOf (after fresh l) x .owes;
-  holds = deskOf (after fresh l) (otherAt x) .holds;
+  owes = deskOf (after fresh l) x .clears .owes;
+  holds = deskOf (after fresh l) (otherAt x) .clears .holds;
   trains = trainsOf (done fresh l) (after fresh l) (otherAt x);
   way = onTheWayTo (after fresh l) (otherAt x);
 }
 
 balance : (l : List Todo) (x : Station) (b : Balance) → balanceOf l x ≡ b → b .force ≡ true → b .owes ≡ b .holds + b .trains + b .way
 balance l x b e force =
-    let o : deskOf (after fresh l) x .owes ≡ b .owes = ap (λ (z : Balance). z .owes) e in
-    let h : deskOf (after fresh l) (otherAt x) .holds ≡ b .holds = ap (λ (z : Balance). z .holds) e in
+    let o : deskOf (after fresh l) x .clears .owes ≡ b .owes = ap (λ (z : Balance). z .owes) e in
+    let h : deskOf (after fresh l) (otherAt x) .clears .holds ≡ b .holds = ap (λ (z : Balance). z .holds) e in
     let t : trainsOf (done fresh l) (after fresh l) (otherAt x) ≡ b .trains = ap (λ (z : Balance). z .trains) e in
     let w : onTheWayTo (after fresh l) (otherAt x) ≡ b .way = ap (λ (z : Balance). z .way) e in
     omega (arith, demand3 (runs fresh l) .owed (ap (λ (z : Balance). z .force) e ∙ force) x)
@@ -297,7 +297,7 @@ takenBack = todos (begins ++ openB ∷ openA ∷ backB ∷ backA ∷ [])
 receipts-exchanged : Run fresh (begins ++ openB ∷ openA ∷ backA ∷ backB ∷ []) (after fresh takenBack)
 unfolding stepOf wellMade decode readAt judge mapFits rangesHold entryIn lengthOf entered padTo
 receipts-exchanged =
-    demand3 (runs fresh takenBack) .swap (begins ++ openB ∷ openA ∷ []) backB backA [] B A (Receives B 1) (Receives A 1) refl
+    demand3 (runs fresh takenBack) .swap (begins ++ openB ∷ openA ∷ []) backB backA [] B A (acts.Receive B 1) (acts.Receive A 1) refl
     (record { time = 2; entry = refl; accepted = refl })
     (record { time = 1; entry = refl; accepted = refl })
     B-not-A
@@ -307,7 +307,7 @@ receipts-exchanged =
 departures-exchanged : Run fresh (begins ++ openA ∷ openB ∷ backB ∷ backA ∷ []) (after fresh takenBack)
 unfolding stepOf wellMade decode readAt judge mapFits rangesHold entryIn lengthOf entered padTo
 departures-exchanged =
-    demand3 (runs fresh takenBack) .swap begins openB openA (backB ∷ backA ∷ []) B A (Opens Impaired 2 6) (Opens Impaired 4 5) refl
+    demand3 (runs fresh takenBack) .swap begins openB openA (backB ∷ backA ∷ []) B A (acts.Open Impaired 2 6) (acts.Open Impaired 4 5) refl
     (record { time = 0; entry = refl; accepted = refl })
     (record { time = 0; entry = refl; accepted = refl })
     B-not-A
@@ -346,12 +346,12 @@ train-and-receipt-exchanged : Run fresh (oneSent ++ firstTaken ∷ secondSent �
     × Run fresh (oneSent ++ secondSent ∷ firstTaken ∷ behind) (after fresh takenThenSent)
 unfolding stepOf wellMade decode readAt judge mapFits rangesHold entryIn lengthOf entered padTo
 train-and-receipt-exchanged = (
-  demand3 (runs fresh sentThenTaken) .swap oneSent secondSent firstTaken behind A B (Runs Clear 0 0) (Receives A 2) refl
+  demand3 (runs fresh sentThenTaken) .swap oneSent secondSent firstTaken behind A B (acts.Train Clear 0 0) (acts.Receive A 2) refl
       (record { time = 121; entry = refl; accepted = refl })
       (record { time = 115; entry = refl; accepted = refl })
       A-not-B
       (λ r. let e = r .1 in let z : _≡_ {A = ℕ} 2 3 = cc in omega arith),
-  demand3 (runs fresh takenThenSent) .swap oneSent firstTaken secondSent behind B A (Receives A 2) (Runs Clear 0 0) refl
+  demand3 (runs fresh takenThenSent) .swap oneSent firstTaken secondSent behind B A (acts.Receive A 2) (acts.Train Clear 0 0) refl
       (record { time = 115; entry = refl; accepted = refl })
       (record { time = 121; entry = refl; accepted = refl })
       B-not-A

@@ -1,7 +1,7 @@
 -- Of every list of steps from a fresh section: no step is refused with 5, since every section on the way is well made and no other test gives 5;
 -- and where a TRAIN of the other station is the nearest, the station owes a line clear, so that "not below 0" never acts.
 -- Assumes nothing.
-use Prim.Native.Nat.{_+_, _<_, ℕ}
+use Prim.Native.Nat.{ℕ, _+_, _<_}
 use Rattle.working.proofs.Changes.{step-is}
 use Rattle.working.proofs.Demand3.{kept}
 use Rattle.working.proofs.Found.{Found, cut, found, the-end, whole}
@@ -11,23 +11,21 @@ use Rattle.working.proofs.Line.{nearest-insert, split-end}
 use Rattle.working.proofs.Lists.{split-run, step-did}
 use Rattle.working.proofs.Sides.{moves-far, movesOf}
 use Rattle.working.proofs.Tests.{both}
+use Rattle.working.specs.Acts as acts
+use Rattle.working.specs.Acts.{Act}
 use Rattle.working.specs.Departures.{isTrain, kindIn}
+use Rattle.working.specs.Effects.{Plan, effectOf}
 use Rattle.working.specs.Entries.{entryIn, entryTests, judge, lengthOf, mapIn, readAs, readAt}
-use Rattle.working.specs.Events.{Bad, Decoded, Says, decode, decodedAs}
-use Rattle.working.specs.Reasons.{beginTests, findOf, meetTests, openTests, receiveTests, resumeTests, returnTests, trainTests}
-use Rattle.working.specs.Refusals.{firstOf, numberOf, orElse}
+use Rattle.working.specs.Events.{At, Bad, Begin, Decoded, Event, Meet, Resume, Says, decode, decodedAs}
+use Rattle.working.specs.Reasons.{beginTests, findOf, meetTests, resumeTests, testsOf}
+use Rattle.working.specs.Refusals.{Test, firstOf, numberOf, orElse}
 use Rattle.working.specs.Runs.{Done, Run, next}
 use Rattle.working.specs.Sections.{deskOf, fresh, lineOf, nearestAt, numberAt, otherAt}
 use Rattle.working.specs.Steps.{doneBy, entered, onDecoded, planOf, settled, unlessRefused}
 use Rattle.working.specs.WellMade.{isFrom}
-use Rattle.working.specs.declared.Act.the-variants.{Opens, Passes, Receives, Returns, Runs}
-use Rattle.working.specs.declared.Act.{Act}
 use Rattle.working.specs.declared.Answer.the-variants as answer
 use Rattle.working.specs.declared.Answer.{Answer}
 use Rattle.working.specs.declared.Desk.{Desk}
-use Rattle.working.specs.declared.Event.the-variants.{At, Begin, Meet, Resume}
-use Rattle.working.specs.declared.Event.{Event}
-use Rattle.working.specs.declared.Plan.{Plan}
 use Rattle.working.specs.declared.Refusal.{Refusal}
 use Rattle.working.specs.declared.Section.{Section}
 use Rattle.working.specs.declared.Station.{Station}
@@ -56,11 +54,11 @@ fineVerdict (Refused why) = notFive why ≡ true
 fineVerdict Allowed = Unit {0}
 
 -- no test of a list gives 5: computed on each list as it stands
-abbrev noFive : List (Bool × Refusal) → Bool
+abbrev noFive : List Test → Bool
 noFive [] = true
 noFive (t ∷ ts) = notFive (t .1) && noFive ts
 
-fine-first : (ts : List (Bool × Refusal)) → noFive ts ≡ true → fineVerdict (firstOf ts)
+fine-first : (ts : List Test) → noFive ts ≡ true → fineVerdict (firstOf ts)
 fine-first [] h = tt
 fine-first (t ∷ ts) h = let p = both (notFive (t .1)) (noFive ts) h in by (t .0) (p .0) (fine-first ts (p .1))
   where
@@ -76,12 +74,24 @@ fine-settled : (s : Section) (v : Verdict) (t : Section) → fineVerdict v → F
 fine-settled s (Refused why) t h = h
 fine-settled s Allowed t h = tt
 
+fine-effect : (s : Section) (x : Station) (act : Act) (d : Desk) (time : ℕ) (v : Vehicle) → Fine (doneBy s x (effectOf act x d time v) .answer)
+fine-effect s x (acts.Open view class asked) d time v = tt
+fine-effect s x (acts.Through view) d time v = tt
+fine-effect s x (acts.Return asked granted) d time v = tt
+fine-effect s x (acts.Train view asked granted) d time v = tt
+fine-effect s x (acts.Receive sender form) d time v = tt
+
+fine-tests : (act : Act) (x : Station) (force : Bool) (d : Desk) (time : ℕ) (v : Vehicle) → noFive (testsOf act x force d time v) ≡ true
+fine-tests (acts.Open view class asked) x force d time v = refl
+fine-tests (acts.Through view) x force d time v = refl
+fine-tests (acts.Return asked granted) x force d time v = refl
+fine-tests (acts.Train view asked granted) x force d time v = refl
+fine-tests (acts.Receive sender form) x force d time v = refl
+
 fine-plan : (s : Section) (x : Station) (act : Act) (force : Bool) (d : Desk) (time : ℕ) (v : Vehicle) → Fine (doneBy s x (planOf act x force d time v) .answer)
-fine-plan s x (Opens view class asked) force d time v = fine-done s x (firstOf (openTests force d time)) _ (fine-first (openTests force d time) refl) tt
-fine-plan s x (Passes view) force d time v = fine-done s x (firstOf (openTests force d time)) _ (fine-first (openTests force d time) refl) tt
-fine-plan s x (Returns asked granted) force d time v = fine-done s x (firstOf (returnTests force d time granted)) _ (fine-first (returnTests force d time granted) refl) tt
-fine-plan s x (Runs view asked granted) force d time v = fine-done s x (firstOf (trainTests force d time granted)) _ (fine-first (trainTests force d time granted) refl) tt
-fine-plan s x (Receives sender form) force d time v = fine-done s x (firstOf (receiveTests x force d time sender form v)) _ (fine-first (receiveTests x force d time sender form v) refl) tt
+fine-plan s x act force d time v =
+    fine-done s x (firstOf (testsOf act x force d time v)) (effectOf act x d time v)
+    (fine-first (testsOf act x force d time v) (fine-tests act x force d time v)) (fine-effect s x act d time v)
 
 fine-entered : (s : Section) (e : Event) → Fine (entered s e .answer)
 unfolding entered
@@ -126,7 +136,7 @@ never-five {s = s} run before d after is = let q = split-run before (rw is at ru
 
 pub train-owed : {l : List Done} {s : Section} → Run fresh l s → (x : Station) → 0 < length (lineOf s)
     → isFrom (numberAt (otherAt x)) (nearestAt x (lineOf s)) ≡ true → isTrain (kindIn (nearestAt x (lineOf s) .movement)) ≡ true
-    → 0 < deskOf s x .owes
+    → 0 < deskOf s x .clears .owes
 train-owed {s = s} run x there from train =
     let q = split-end x (lineOf s) there in
     let v = q .0 in

@@ -2,7 +2,7 @@
 -- After each step the section is well made, the invariant holds, and every vehicle present has its departure in the list so far; the claims at the end follow
 -- from these. Two neighbours change places because each reads and alters only its own desk and its own end of the line.
 -- Assumes nothing.
-use Prim.Native.Nat.{_+_, _<_, ℕ}
+use Prim.Native.Nat.{ℕ, _+_, _<_}
 use Rattle.working.proofs.Changes.{change}
 use Rattle.working.proofs.Kept.{Good, good-emptied, good-step}
 use Rattle.working.proofs.Line.{Every, every-at}
@@ -11,6 +11,8 @@ use Rattle.working.proofs.Made.{length-line}
 use Rattle.working.proofs.Opposed.{opposed-openers}
 use Rattle.working.proofs.Swap.{Opposite, ab, ba, swapped}
 use Rattle.working.proofs.Told.{Told, granted-line, told-change, trains-told}
+use Rattle.working.specs.Acts as acts
+use Rattle.working.specs.Acts.{Act}
 use Rattle.working.specs.Demand3.{AcceptedAt, Demand3, ReceivesIt, formIn, onTheWayTo, trainsOf, vehicleAt}
 use Rattle.working.specs.Departures.{departureOf, leftSlowly}
 use Rattle.working.specs.Events.{decode}
@@ -18,8 +20,6 @@ use Rattle.working.specs.Runs.{Done, Run, StepBy, next, stop}
 use Rattle.working.specs.Sections.{deskOf, fresh, lineOf, otherAt}
 use Rattle.working.specs.Steps.{stepOf}
 use Rattle.working.specs.WellMade.{isOpener}
-use Rattle.working.specs.declared.Act.the-variants.{Receives}
-use Rattle.working.specs.declared.Act.{Act}
 use Rattle.working.specs.declared.Answer.{Answer}
 use Rattle.working.specs.declared.Section.{Section}
 use Rattle.working.specs.declared.Station.the-variants.{A, B}
@@ -66,7 +66,7 @@ module _ (d e : Done) (x y : Station) (first second : Act) (p : AcceptedAt d x f
   swap-known t t₁ t₂ u after g a b r =
       let at : e .answer ≡ stepOf (stepOf t (d .bytes) .section) (e .bytes) .answer = b .0 ∙ ap (λ (z : Section). stepOf z (e .bytes) .answer) (a .1) in
       let w = swapped t (d .bytes) (e .bytes) x y (p .time) (q .time) first second (opposite x y other) (g .sound) (p .entry) (q .entry)
-      (rw (a .0) at (p .accepted)) (rw at at (q .accepted)) (λ f. apart (f .0, f .1 ∙ ap (λ (z : Answer). Receives x (formIn z)) (sym (a .0)))) in
+      (rw (a .0) at (p .accepted)) (rw at at (q .accepted)) (λ f. apart (f .0, f .1 ∙ ap (λ (z : Answer). acts.Receive x (formIn z)) (sym (a .0)))) in
       next (step-by (e .form) t (e .bytes) (at ∙ sym (w .first)) refl)
       (next (step-by (d .form) (stepOf t (e .bytes) .section) (d .bytes) (a .0 ∙ sym (w .second)) (b .1 ∙ ap (λ (z : Section). stepOf z (e .bytes) .section) (a .1) ∙ sym (w .end))) r)
 
@@ -100,6 +100,6 @@ demand3 {l} {s} run = record {
     slow : (i : ℕ) → i < s .len → isOpener (vehicleAt s i .movement) ≡ true → leftSlowly (departureOf l (vehicleAt s i)) ≡ true
     slow i there opener = let t = told i there in rw (t .is) (t .slowly opener)
 
-    owed : (x : Station) → deskOf s x .owes ≡ deskOf s (otherAt x) .holds + trainsOf l s (otherAt x) + onTheWayTo s (otherAt x)
+    owed : (x : Station) → deskOf s x .clears .owes ≡ deskOf s (otherAt x) .clears .holds + trainsOf l s (otherAt x) + onTheWayTo s (otherAt x)
     owed A = omega (arith, k .good .kept .own .sum, trains-told l B (lineOf s) (k .told), granted-line A (lineOf s))
     owed B = omega (arith, k .good .kept .far .sum, trains-told l A (lineOf s) (k .told), granted-line B (lineOf s))

@@ -170,6 +170,6 @@ pub worn-made : wellMade worn ≡ true
 unfolding worn wellMade padTo
 worn-made = refl
 
-pub owed-at-resume : (holding .b .owes ≡ 2) × (holding .len ≡ 0)
+pub owed-at-resume : (holding .b .clears .owes ≡ 2) × (holding .len ≡ 0)
 unfolding guest holding stepOf wellMade decode readAt judge mapFits rangesHold entryIn lengthOf entered padTo
 owed-at-resume = (refl, refl)

@@ -6,6 +6,7 @@ use Rattle.working.proofs.Lists.{Todo, after, done, runs}
 use Rattle.working.proofs.Literals.{begin, opens, receive, returns}
 use Rattle.working.proofs.Swap.{isReceive}
 use Rattle.working.proofs.Tests.{false-true}
+use Rattle.working.specs.Acts as acts
 use Rattle.working.specs.Demand3.{AcceptedAt, ReceivesIt, onTheWayTo, vehicleAt}
 use Rattle.working.specs.Entries.{entryIn, judge, lengthOf, mapFits, rangesHold, readAt}
 use Rattle.working.specs.Events.{decode}
@@ -13,7 +14,6 @@ use Rattle.working.specs.Runs.{Done, Run, byValue, inPlace}
 use Rattle.working.specs.Sections.{deskOf, fresh, numberAt, padTo}
 use Rattle.working.specs.Steps.{entered, stepOf}
 use Rattle.working.specs.WellMade.{wellMade}
-use Rattle.working.specs.declared.Act.the-variants.{Opens}
 use Rattle.working.specs.declared.Answer.the-variants.{Accepted}
 use Rattle.working.specs.declared.Speed.the-variants.{Kmh, NoSpeed, Walking}
 use Rattle.working.specs.declared.Station.the-variants.{A, B}
@@ -41,7 +41,7 @@ granting =
     record { form = byValue; bytes = begin } ∷ record { form = byValue; bytes = opens 1 5 1 2 }
     ∷ record { form = byValue; bytes = receive 2 60 1 1 } ∷ record { form = byValue; bytes = returns 2 61 2 } ∷ []
 
-on-the-way : (onTheWayTo (after fresh granting) A ≡ 2) × (deskOf (after fresh granting) B .owes ≡ 2) × (after fresh granting .force ≡ true)
+on-the-way : (onTheWayTo (after fresh granting) A ≡ 2) × (deskOf (after fresh granting) B .clears .owes ≡ 2) × (after fresh granting .force ≡ true)
 unfolding stepOf wellMade decode readAt judge mapFits rangesHold entryIn lengthOf entered padTo
 on-the-way = (refl, refl, refl)
 
@@ -60,20 +60,20 @@ is-list : done fresh two ≡ begins ∷ first ∷ second ∷ []
 unfolding stepOf wellMade decode readAt judge mapFits rangesHold entryIn lengthOf entered padTo
 is-list = refl
 
-first-accepted : AcceptedAt first A (Opens Clear 1 2)
+first-accepted : AcceptedAt first A (acts.Open Clear 1 2)
 unfolding decode readAt judge mapFits rangesHold entryIn lengthOf
 first-accepted = record { time = 5; entry = refl; accepted = refl }
 
-second-accepted : AcceptedAt second B (Opens Impaired 1 1)
+second-accepted : AcceptedAt second B (acts.Open Impaired 1 1)
 unfolding decode readAt judge mapFits rangesHold entryIn lengthOf
 second-accepted = record { time = 9; entry = refl; accepted = refl }
 
 -- the list with the two in the other order ends in the same section
 pub swapped-list : Run fresh (begins ∷ second ∷ first ∷ []) (after fresh two)
-swapped-list = demand3 (runs fresh two) .swap (begins ∷ []) first second [] A B (Opens Clear 1 2) (Opens Impaired 1 1) is-list first-accepted second-accepted apart not-received
+swapped-list = demand3 (runs fresh two) .swap (begins ∷ []) first second [] A B (acts.Open Clear 1 2) (acts.Open Impaired 1 1) is-list first-accepted second-accepted apart not-received
   where
     apart : A ≡ B → ⊥
     apart e = let z : _≡_ {A = ℕ} 0 1 = cc in omega arith
 
-    not-received : ReceivesIt (Opens Clear 1 2) A (first .answer) (Opens Impaired 1 1) → ⊥
+    not-received : ReceivesIt (acts.Open Clear 1 2) A (first .answer) (acts.Open Impaired 1 1) → ⊥
     not-received r = false-true (ap isReceive (r .1))

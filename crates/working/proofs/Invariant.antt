@@ -89,10 +89,10 @@ awayAt [] theirs = lastReturn theirs
 awayAt (m ∷ l) theirs = isOpen m
 
 pub record Half (d o : Desk) (mine theirs : List Movement) : Type 0 where
-  pub sum : d .owes ≡ o .holds + trains theirs + granted mine
+  pub sum : d .clears .owes ≡ o .clears .holds + trains theirs + granted mine
   pub outs : d .out ≡ (ltb 0 (o .guest) || awayAt mine theirs)
-  pub guests : 0 < d .guest → (mine ≡ []) × (theirs ≡ []) × (o .guest ≡ 0) × (d .holds ≡ 0) × (d .owes ≡ 0)
-  pub holding : 0 < d .holds → (d .owes ≡ 0) × (theirs ≡ []) × (allM isTrainM mine ≡ true)
+  pub guests : 0 < d .guest → (mine ≡ []) × (theirs ≡ []) × (o .guest ≡ 0) × (d .clears .holds ≡ 0) × (d .clears .owes ≡ 0)
+  pub holding : 0 < d .clears .holds → (d .clears .owes ≡ 0) × (theirs ≡ []) × (allM isTrainM mine ≡ true)
   pub row : inRow mine ≡ true
   -- a fast vehicle has nothing of the other station ahead
   pub clear : (allM isOpener mine || isNil theirs) ≡ true
@@ -264,8 +264,8 @@ far-away m (n ∷ t) mine e = refl
 
 -- an OPEN or a THROUGH
 pub kept-opener : (d o e : Desk) (m : Movement) (mine theirs : List Movement) → Halves d o mine theirs
-    → isOpener m ≡ true → d .out ≡ false → d .holds ≡ 0 → d .owes ≡ 0 → d .guest ≡ 0
-    → e .out ≡ isOpen m → e .holds ≡ 0 → e .owes ≡ 0 → e .guest ≡ 0
+    → isOpener m ≡ true → d .out ≡ false → d .clears .holds ≡ 0 → d .clears .owes ≡ 0 → d .guest ≡ 0
+    → e .out ≡ isOpen m → e .clears .holds ≡ 0 → e .clears .owes ≡ 0 → e .guest ≡ 0
     → Halves e o (m ∷ mine) theirs
 kept-opener d o e m mine theirs h op out holds owes guest out′ holds′ owes′ guest′ =
     let none-out : (ltb 0 (o .guest) || awayAt mine theirs) ≡ false = sym (h .own .outs) ∙ out in
@@ -301,14 +301,14 @@ kept-opener d o e m mine theirs h op out holds owes guest out′ holds′ owes�
 
 -- a RETURN
 pub kept-return : (d o e : Desk) (a g : ℕ) (mine theirs : List Movement) → Halves d o mine theirs
-    → 0 < d .guest → d .holds ≡ 0
-    → e .out ≡ d .out → e .holds ≡ 0 → e .owes ≡ ifAny g (d .owes) → e .guest ≡ 0
+    → 0 < d .guest → d .clears .holds ≡ 0
+    → e .out ≡ d .out → e .clears .holds ≡ 0 → e .clears .owes ≡ ifAny g (d .clears .owes) → e .guest ≡ 0
     → Halves e o (Return a g ∷ mine) theirs
 kept-return d o e a g mine theirs h guest holds out′ holds′ owes′ guest′ =
     let q = h .own .guests guest in
-    let s : d .owes ≡ o .holds + trains [] + granted [] = rw (q .0, q .1) at (h .own .sum) in
-    let t : o .owes ≡ d .holds + trains [] + granted [] = rw (q .0, q .1) at (h .far .sum) in
-    let w : e .owes ≡ g = owes′ ∙ or-else g (d .owes) (q .4) in
+    let s : d .clears .owes ≡ o .clears .holds + trains [] + granted [] = rw (q .0, q .1) at (h .own .sum) in
+    let t : o .clears .owes ≡ d .clears .holds + trains [] + granted [] = rw (q .0, q .1) at (h .far .sum) in
+    let w : e .clears .owes ≡ g = owes′ ∙ or-else g (d .clears .owes) (q .4) in
     let out : d .out ≡ (ltb 0 (o .guest) || false) = rw (q .0, q .1) at (h .own .outs) in
     let away : o .out ≡ (ltb 0 (d .guest) || false) = rw (q .0, q .1) at (h .far .outs) in
     rw (q .0, q .1)
@@ -333,15 +333,15 @@ kept-return d o e a g mine theirs h guest holds out′ holds′ owes′ guest′
 
 -- a TRAIN
 pub kept-train : (d o e : Desk) (a g : ℕ) (mine theirs : List Movement) → Halves d o mine theirs
-    → 0 < d .holds → (0 < g → d .holds ≤ 1)
-    → e .out ≡ d .out → e .holds ≡ d .holds - 1 → e .owes ≡ ifAny g (d .owes) → e .guest ≡ d .guest
+    → 0 < d .clears .holds → (0 < g → d .clears .holds ≤ 1)
+    → e .out ≡ d .out → e .clears .holds ≡ d .clears .holds - 1 → e .clears .owes ≡ ifAny g (d .clears .owes) → e .guest ≡ d .guest
     → Halves e o (Train a g ∷ mine) theirs
 kept-train d o e a g mine theirs h holds last out′ holds′ owes′ guest′ =
     let q = h .own .holding holds in
     let their-guest : o .guest ≡ 0 = zero-unless (o .guest) (λ p. omega (arith, h .far .guests p, h .far .sum)) in
     let own-guest : d .guest ≡ 0 = zero-unless (d .guest) (λ p. omega (arith, h .own .guests p)) in
-    let w : e .owes ≡ g = owes′ ∙ or-else g (d .owes) (q .0) in
-    let s : d .owes ≡ o .holds + trains theirs + granted mine = h .own .sum in
+    let w : e .clears .owes ≡ g = owes′ ∙ or-else g (d .clears .owes) (q .0) in
+    let s : d .clears .owes ≡ o .clears .holds + trains theirs + granted mine = h .own .sum in
     record {
       own = record {
         sum = omega arith;
@@ -361,7 +361,7 @@ kept-train d o e a g mine theirs h holds last out′ holds′ owes′ guest′ =
       };
     }
   where
-    few : 0 < e .holds → (b : Bool) → ltb 0 g ≡ b → e .owes ≡ g → e .owes ≡ 0
+    few : 0 < e .clears .holds → (b : Bool) → ltb 0 g ≡ b → e .clears .owes ≡ g → e .clears .owes ≡ 0
     few k true p w = absurd (omega (arith, last (ltb-true 0 g p)))
     few k false p w = omega (arith, no-test g p)
 
@@ -370,14 +370,14 @@ kept-train d o e a g mine theirs h holds last out′ holds′ owes′ guest′ =
 -- the station's own OPEN or THROUGH
 pub kept-own : (d o e : Desk) (m : Movement) (mine theirs : List Movement) → Halves d o (m ∷ mine) theirs
     → isOpener m ≡ true
-    → e .out ≡ cond (isOpen m) false (d .out) → e .holds ≡ d .holds → e .owes ≡ d .owes → e .guest ≡ d .guest
+    → e .out ≡ cond (isOpen m) false (d .out) → e .clears .holds ≡ d .clears .holds → e .clears .owes ≡ d .clears .owes → e .guest ≡ d .guest
     → Halves e o mine theirs
 kept-own d o e m mine theirs h op out′ holds′ owes′ guest′ =
     let k = opener m op in
     let own-guest : d .guest ≡ 0 = zero-unless (d .guest) (λ p. cons-nil (h .own .guests p .0)) in
     let their-guest : o .guest ≡ 0 = zero-unless (o .guest) (λ p. cons-nil (h .far .guests p .1)) in
-    let own-holds : d .holds ≡ 0 = zero-unless (d .holds) (λ p. clash (both (isTrainM m) (allM isTrainM mine) (h .own .holding p .2) .0) (k .not-train)) in
-    let their-holds : o .holds ≡ 0 = zero-unless (o .holds) (λ p. cons-nil (h .far .holding p .1)) in
+    let own-holds : d .clears .holds ≡ 0 = zero-unless (d .clears .holds) (λ p. clash (both (isTrainM m) (allM isTrainM mine) (h .own .holding p .2) .0) (k .not-train)) in
+    let their-holds : o .clears .holds ≡ 0 = zero-unless (o .clears .holds) (λ p. cons-nil (h .far .holding p .1)) in
     let openers : allM isOpener theirs ≡ true = sym (or-false (allM isOpener theirs)) ∙ h .far .clear in
     let rest = both (allM (may m) mine) (inRow mine) (h .own .row) in
     let stays-in : e .out ≡ false = out′ ∙ in-now (isOpen m) refl their-guest in
@@ -410,22 +410,22 @@ module _ (d o e : Desk) (m : Movement) (l : List Movement) (h : Halves d o [] (l
   far-guests =
       (zero-unless (d .guest) (λ p. snoc-nil l m (h .own .guests p .1)), zero-unless (o .guest) (λ p. snoc-nil l m (h .far .guests p .0)))
 
-  pub far-holds : d .holds ≡ 0
-  far-holds = zero-unless (d .holds) (λ p. snoc-nil l m (h .own .holding p .1))
+  pub far-holds : d .clears .holds ≡ 0
+  far-holds = zero-unless (d .clears .holds) (λ p. snoc-nil l m (h .own .holding p .1))
 
   -- no kind but TRAIN comes while its sender holds a line clear
-  far-held : isTrainM m ≡ false → o .holds ≡ 0
-  far-held n = zero-unless (o .holds) (λ p. clash (all-snoc isTrainM l m (h .far .holding p .2) .1) n)
+  far-held : isTrainM m ≡ false → o .clears .holds ≡ 0
+  far-held n = zero-unless (o .clears .holds) (λ p. clash (all-snoc isTrainM l m (h .far .holding p .2) .1) n)
 
   -- it goes on, or comes with a grant g
   pub kept-far : isOpen m ≡ false
-      → e .out ≡ cond (isReturn m) false (d .out) → e .holds ≡ grantedIn m → e .owes ≡ d .owes - trainOne m → e .guest ≡ d .guest
+      → e .out ≡ cond (isReturn m) false (d .out) → e .clears .holds ≡ grantedIn m → e .clears .owes ≡ d .clears .owes - trainOne m → e .guest ≡ d .guest
       → Halves e o [] l
   kept-far n out′ holds′ owes′ guest′ =
       let g = far-guests in
       let last = row-last l m (row-snoc l m (h .far .row) .1) in
-      let s : d .owes ≡ o .holds + (trains l + trainOne m) + 0 = rw (weigh-snoc trainOne l m) at (h .own .sum) in
-      let t : o .owes ≡ d .holds + 0 + (granted l + grantedIn m) = rw (weigh-snoc grantedIn l m) at (h .far .sum) in
+      let s : d .clears .owes ≡ o .clears .holds + (trains l + trainOne m) + 0 = rw (weigh-snoc trainOne l m) at (h .own .sum) in
+      let t : o .clears .owes ≡ d .clears .holds + 0 + (granted l + grantedIn m) = rw (weigh-snoc grantedIn l m) at (h .far .sum) in
       let held = far-holds in
       record {
         own = record {
@@ -450,30 +450,30 @@ module _ (d o e : Desk) (m : Movement) (l : List Movement) (h : Halves d o [] (l
       out-now true p = refl
       out-now false p = h .own .outs ∙ ap₂ _||_ (zero-test (o .guest) (far-guests .1)) (last-snoc l m ∙ p)
 
-      carries : 0 < e .holds → e .holds ≡ grantedIn m → modest m ≡ false
+      carries : 0 < e .clears .holds → e .clears .holds ≡ grantedIn m → modest m ≡ false
       carries k q = not-both (not (isOpen m)) (ne-eqb (grantedIn m) 0 (λ z. omega arith))
         where
           not-both : (b : Bool) {c : Bool} → c ≡ false → (b && c) ≡ false
           not-both true p = p
           not-both false p = refl
 
-      paid : l ≡ [] → 0 < e .holds → e .holds ≡ grantedIn m → e .owes ≡ d .owes - trainOne m → e .owes ≡ 0
+      paid : l ≡ [] → 0 < e .clears .holds → e .clears .holds ≡ grantedIn m → e .clears .owes ≡ d .clears .owes - trainOne m → e .clears .owes ≡ 0
       paid nil k q w =
-          let s : d .owes ≡ o .holds + (trains l + trainOne m) + 0 = rw (weigh-snoc trainOne l m) at (h .own .sum) in
-          let t : o .owes ≡ d .holds + 0 + (granted l + grantedIn m) = rw (weigh-snoc grantedIn l m) at (h .far .sum) in
+          let s : d .clears .owes ≡ o .clears .holds + (trains l + trainOne m) + 0 = rw (weigh-snoc trainOne l m) at (h .own .sum) in
+          let t : o .clears .owes ≡ d .clears .holds + 0 + (granted l + grantedIn m) = rw (weigh-snoc grantedIn l m) at (h .far .sum) in
           let z : trains l ≡ 0 = ap trains nil in
-          let u : o .holds ≡ 0 = zero-unless (o .holds) (λ p. omega (arith, h .far .holding p)) in
+          let u : o .clears .holds ≡ 0 = zero-unless (o .clears .holds) (λ p. omega (arith, h .far .holding p)) in
           omega arith
 
   -- an OPEN becomes a guest
   pub kept-guest : isOpen m ≡ true → trainOne m ≡ 0 → grantedIn m ≡ 0 → isTrainM m ≡ false → isReturn m ≡ false
-      → e .out ≡ d .out → e .holds ≡ d .holds → e .owes ≡ d .owes → 0 < e .guest
+      → e .out ≡ d .out → e .clears .holds ≡ d .clears .holds → e .clears .owes ≡ d .clears .owes → 0 < e .guest
       → Halves e o [] l
   kept-guest n train grants not-train not-return out′ holds′ owes′ guest′ =
       let g = far-guests in
       let nil : l ≡ [] = alone l m (h .far .row) (rw n) in
-      let s : d .owes ≡ o .holds + (trains l + trainOne m) + 0 = rw (weigh-snoc trainOne l m) at (h .own .sum) in
-      let t : o .owes ≡ d .holds + 0 + (granted l + grantedIn m) = rw (weigh-snoc grantedIn l m) at (h .far .sum) in
+      let s : d .clears .owes ≡ o .clears .holds + (trains l + trainOne m) + 0 = rw (weigh-snoc trainOne l m) at (h .own .sum) in
+      let t : o .clears .owes ≡ d .clears .holds + 0 + (granted l + grantedIn m) = rw (weigh-snoc grantedIn l m) at (h .far .sum) in
       let z : trains l ≡ 0 = ap trains nil in
       let held = far-holds in
       let their-held = far-held not-train in

@@ -1,7 +1,7 @@
 -- Every step keeps the invariant: what it says of both stations' desks and of the vehicles between them.
 -- Each case of a step is one law of the invariant, over the station's own desk and the other's.
 -- Assumes nothing.
-use Prim.Native.Nat.{_≤_, suc, ℕ}
+use Prim.Native.Nat.{ℕ, _≤_, suc}
 use Rattle.working.proofs.Changes.{Change, Sound, arrival, change, departure, emptying, meeting, nearest-of, refusal, sound-emptied, sound-step, well-arrive, well-at, well-depart}
 use Rattle.working.proofs.Invariant.{Half, Halves}
 use Rattle.working.proofs.Line.{number-other, number-same}
@@ -11,13 +11,13 @@ use Rattle.working.proofs.Plans.{Departs}
 use Rattle.working.proofs.Receipts.{arrives-far, arrives-own}
 use Rattle.working.proofs.Sides.{moves-far, moves-none, moves-own, moves-past, moves-skip, moves-turned, movesOf}
 use Rattle.working.proofs.Tests.{both, each-holds}
-use Rattle.working.specs.Effects.{arriveDesk, otherDesk, ownDesk, vehicleFor}
+use Rattle.working.specs.Acts.{Act}
+use Rattle.working.specs.Effects.{Departing, arriveDesk, otherDesk, ownDesk}
 use Rattle.working.specs.Events.{Decoded, decode}
 use Rattle.working.specs.Reasons.{mayEnter}
 use Rattle.working.specs.Sections.{deskOf, emptied, freshDesk, insertAt, lineOf, numberAt, otherAt, withDesk, withLine}
 use Rattle.working.specs.Steps.{metAt, stepOf, turnAt}
 use Rattle.working.specs.WellMade.{isFrom, isOpener, movementTests}
-use Rattle.working.specs.declared.Act.{Act}
 use Rattle.working.specs.declared.Desk.{Desk}
 use Rattle.working.specs.declared.Movement.{Movement}
 use Rattle.working.specs.declared.Section.{Section}
@@ -51,12 +51,13 @@ kept-with : (s : Section) (x : Station) (e : Desk) (l : List Vehicle) → Well x
 kept-with s A e l w h = rw (line-with 24 l (w .fits)) h
 kept-with s B e l w h = rw (line-with 24 l (w .fits)) (record { own = h .far; far = h .own })
 
-kept-depart : (s : Section) (act : Act) (x : Station) (e : Desk) (m : Movement) (class forms : ℕ) (speed : Speed) → Good s
-    → Departs act x (deskOf s x) e m class forms speed → Between x e (deskOf s (otherAt x)) (insertAt x (vehicleFor x (e .last) m class) (lineOf s))
-kept-depart s act x e m class forms speed g p =
-    let v = vehicleFor x (e .last) m class in
-    rw (moves-own x v (lineOf s) (number-same x), moves-past x v (lineOf s) (number-other x))
-    (p .keeps (deskOf s (otherAt x)) (movesOf x (lineOf s)) (movesOf (otherAt x) (lineOf s)) (kept-at x s g))
+kept-depart : (s : Section) (act : Act) (x : Station) (p : Departing) → Good s → Departs act x (deskOf s x) p
+    → Between x (p .desk) (deskOf s (otherAt x)) (insertAt x (p .vehicle) (lineOf s))
+kept-depart s act x p g q =
+    let own : isFrom (numberAt x) (p .vehicle) ≡ true = rw (q .sender) (number-same x) in
+    let past : isFrom (numberAt (otherAt x)) (p .vehicle) ≡ false = rw (q .sender) (number-other x) in
+    rw (moves-own x (p .vehicle) (lineOf s) own, moves-past x (p .vehicle) (lineOf s) past)
+    (q .keeps (deskOf s (otherAt x)) (movesOf x (lineOf s)) (movesOf (otherAt x) (lineOf s)) (kept-at x s g))
 
 kept-arrive : (s : Section) (x : Station) (time : ℕ) (v : Vehicle) (l : List Vehicle) → Good s → lineOf s ≡ insertAt x v l → mayEnter x v ≡ true
     → Between x (arriveDesk x (deskOf s x) time v) (deskOf s (otherAt x)) l
@@ -98,8 +99,8 @@ kept-emptied = record { own = half; far = half }
 kept-change : (s : Section) (e : Decoded) (r : Stepped) → Good s → Change s e r → Between A (r .section .a) (r .section .b) (lineOf (r .section))
 kept-change s e r g (refusal k why) = g .kept
 kept-change s e r g (emptying k force n) = kept-emptied
-kept-change s e r g (departure x time act {d} {m} {class} {forms} {speed} f p) =
-    kept-with s x d (insertAt x (vehicleFor x (d .last) m class) (lineOf s)) (well-depart s act x d m class forms speed (g .sound) p) (kept-depart s act x d m class forms speed g p)
+kept-change s e r g (departure x time act {p} f q) =
+    kept-with s x (p .desk) (insertAt x (p .vehicle) (lineOf s)) (well-depart s act x p (g .sound) q) (kept-depart s act x p g q)
 kept-change s e r g (arrival x time y n f named may) =
     let q = nearest-of y n x (lineOf s) named in
     let enters : mayEnter x (q .vehicle) ≡ true = rw (q .near) at may in

@@ -30,6 +30,7 @@ pub mod ReadAgain
 pub mod ReadThenWritten
 pub mod ReadingEnds
 pub mod Receipts
+pub mod Scans
 pub mod Sentences
 pub mod Session
 pub mod ShortLogs

@@ -68,34 +68,34 @@ vehicle movement sender form heading met class = record { movement = movement; s
 
 abbrev pub figures : ℕ → ℕ → ℕ → Interval → Bool → ℕ → ℕ → ℕ → ℕ → Desk
 figures clock last sent interval out guest asked holds owes =
-    record { clock = clock; last = last; sent = sent; interval = interval; out = out; guest = guest; asked = asked; holds = holds; owes = owes }
+    record { clock = clock; last = last; sent = sent; interval = interval; out = out; guest = guest; clears = record { asked = asked; holds = holds; owes = owes } }
 
 abbrev pub withClock : ℕ → Desk → Desk
-withClock n d = figures n (d .last) (d .sent) (d .interval) (d .out) (d .guest) (d .asked) (d .holds) (d .owes)
+withClock n d = figures n (d .last) (d .sent) (d .interval) (d .out) (d .guest) (d .clears .asked) (d .clears .holds) (d .clears .owes)
 
 abbrev pub withLast : ℕ → Desk → Desk
-withLast n d = figures (d .clock) n (d .sent) (d .interval) (d .out) (d .guest) (d .asked) (d .holds) (d .owes)
+withLast n d = figures (d .clock) n (d .sent) (d .interval) (d .out) (d .guest) (d .clears .asked) (d .clears .holds) (d .clears .owes)
 
 abbrev pub withSent : ℕ → Desk → Desk
-withSent n d = figures (d .clock) (d .last) n (d .interval) (d .out) (d .guest) (d .asked) (d .holds) (d .owes)
+withSent n d = figures (d .clock) (d .last) n (d .interval) (d .out) (d .guest) (d .clears .asked) (d .clears .holds) (d .clears .owes)
 
 abbrev pub withInterval : Interval → Desk → Desk
-withInterval i d = figures (d .clock) (d .last) (d .sent) i (d .out) (d .guest) (d .asked) (d .holds) (d .owes)
+withInterval i d = figures (d .clock) (d .last) (d .sent) i (d .out) (d .guest) (d .clears .asked) (d .clears .holds) (d .clears .owes)
 
 abbrev pub withOut : Bool → Desk → Desk
-withOut out d = figures (d .clock) (d .last) (d .sent) (d .interval) out (d .guest) (d .asked) (d .holds) (d .owes)
+withOut out d = figures (d .clock) (d .last) (d .sent) (d .interval) out (d .guest) (d .clears .asked) (d .clears .holds) (d .clears .owes)
 
 abbrev pub withGuest : ℕ → Desk → Desk
-withGuest n d = figures (d .clock) (d .last) (d .sent) (d .interval) (d .out) n (d .asked) (d .holds) (d .owes)
+withGuest n d = figures (d .clock) (d .last) (d .sent) (d .interval) (d .out) n (d .clears .asked) (d .clears .holds) (d .clears .owes)
 
 abbrev pub withAsked : ℕ → Desk → Desk
-withAsked n d = figures (d .clock) (d .last) (d .sent) (d .interval) (d .out) (d .guest) n (d .holds) (d .owes)
+withAsked n d = figures (d .clock) (d .last) (d .sent) (d .interval) (d .out) (d .guest) n (d .clears .holds) (d .clears .owes)
 
 abbrev pub withHolds : ℕ → Desk → Desk
-withHolds n d = figures (d .clock) (d .last) (d .sent) (d .interval) (d .out) (d .guest) (d .asked) n (d .owes)
+withHolds n d = figures (d .clock) (d .last) (d .sent) (d .interval) (d .out) (d .guest) (d .clears .asked) n (d .clears .owes)
 
 abbrev pub withOwes : ℕ → Desk → Desk
-withOwes n d = figures (d .clock) (d .last) (d .sent) (d .interval) (d .out) (d .guest) (d .asked) (d .holds) n
+withOwes n d = figures (d .clock) (d .last) (d .sent) (d .interval) (d .out) (d .guest) (d .clears .asked) (d .clears .holds) n
 
 -- ---- a section in force: so many refused, these vehicles from A to B, these desks
 
@@ -124,7 +124,7 @@ intervalFigures Stopped = 0 ∷ 0 ∷ []
 intervalFigures (Since minute) = 1 ∷ minute ∷ []
 
 abbrev deskFigures : Desk → List ℕ
-deskFigures d = d .clock ∷ d .last ∷ d .sent ∷ bit (d .out) ∷ d .guest ∷ d .asked ∷ d .holds ∷ d .owes ∷ intervalFigures (d .interval)
+deskFigures d = d .clock ∷ d .last ∷ d .sent ∷ bit (d .out) ∷ d .guest ∷ d .clears .asked ∷ d .clears .holds ∷ d .clears .owes ∷ intervalFigures (d .interval)
 
 abbrev pub figuresOf : Section → List ℕ
 figuresOf s = s .len ∷ bit (s .force) ∷ s .refused ∷ deskFigures (s .a) ++ deskFigures (s .b) ++ lineFigures (s .vehicles)

@@ -6,16 +6,14 @@ use Prim.Native.Nat.{ℕ}
 use Rattle.working.proofs.FirstEntry.{IsEntry}
 use Rattle.working.proofs.OwnBytes.{Follow, Part, cut-short, follow-joined, joined, log-follows, own-demand3, whole-entry}
 use Rattle.working.proofs.ReadAgain.{Readable, log-readable, read-again}
+use Rattle.working.specs.Acts.{Act}
 use Rattle.working.specs.Demand3.{ReceivesIt}
 use Rattle.working.specs.Entries.{goesOn, readAt}
-use Rattle.working.specs.Events.{Says, decode, decodedAs}
+use Rattle.working.specs.Events.{At, Event, Says, decode, decodedAs}
 use Rattle.working.specs.Runs.{Done, Form, byValue, stepFor, stepsOf}
 use Rattle.working.specs.Sections.{fresh}
 use Rattle.working.specs.Turns.{AcceptedIn, Turn, answersIn, behind, changedAbout, ownBytes, sectionAfter, turnsOf}
-use Rattle.working.specs.declared.Act.{Act}
 use Rattle.working.specs.declared.Answer.{Answer}
-use Rattle.working.specs.declared.Event.the-variants.{At}
-use Rattle.working.specs.declared.Event.{Event}
 use Rattle.working.specs.declared.Read.the-variants.{End, Refused, Whole}
 use Rattle.working.specs.declared.Read.{Read}
 use Rattle.working.specs.declared.Section.{Section}

@@ -42,9 +42,9 @@ desk-made n d l h =
       present = leb-true (countFrom n l) (d .sent) (e .1 .1 .0);
       bounds = record {
         guest = leb-true (d .guest) 5 (e .1 .1 .1 .0);
-        asked = leb-true (d .asked) 8 (e .1 .1 .1 .1 .0);
-        holds = leb-true (d .holds) 8 (e .1 .1 .1 .1 .1 .0);
-        owes = leb-true (d .owes) 8 (e .1 .1 .1 .1 .1 .1 .0);
+        asked = leb-true (d .clears .asked) 8 (e .1 .1 .1 .1 .0);
+        holds = leb-true (d .clears .holds) 8 (e .1 .1 .1 .1 .1 .0);
+        owes = leb-true (d .clears .owes) 8 (e .1 .1 .1 .1 .1 .1 .0);
         interval = e .1 .1 .1 .1 .1 .1 .1 .0;
       };
       number = e .1 .1 .1 .1 .1 .1 .1 .1 .0;
@@ -54,7 +54,7 @@ desk-tests : (n : ℕ) (d : Desk) (l : List Vehicle) → DeskMade n d l → ever
 desk-tests n d l m =
     let b = m .bounds in
     every-holds (deskTests n d l)
-    (le-leb (d .last) 9999 (m .last), (le-leb (d .sent) 12 (m .sent), (le-leb (countFrom n l) (d .sent) (m .present), (le-leb (d .guest) 5 (b .guest), (le-leb (d .asked) 8 (b .asked), (le-leb (d .holds) 8 (b .holds), (le-leb (d .owes) 8 (b .owes), (b .interval, (m .number, tt)))))))))
+    (le-leb (d .last) 9999 (m .last), (le-leb (d .sent) 12 (m .sent), (le-leb (countFrom n l) (d .sent) (m .present), (le-leb (d .guest) 5 (b .guest), (le-leb (d .clears .asked) 8 (b .asked), (le-leb (d .clears .holds) 8 (b .holds), (le-leb (d .clears .owes) 8 (b .owes), (b .interval, (m .number, tt)))))))))
 
 pub record Well (x : Station) (d o : Desk) (l : List Vehicle) : Type 0 where
   pub fits : length l ≤ 24

@@ -1,16 +1,14 @@
 -- What a taken entry's ranges say of its act: the class and what is asked and granted lie where document 01 has them.
 -- The kind fixes which bits stand, and a field that is there lies in its range.
 -- Assumes nothing.
-use Prim.Native.Nat.{_+_, ℕ}
+use Prim.Native.Nat.{ℕ, _+_}
 use Rattle.working.proofs.Found.{Found, cut, found, the-end, whole}
 use Rattle.working.proofs.Tests.{Each, both, each-holds, none-holds}
+use Rattle.working.specs.Acts as acts
+use Rattle.working.specs.Acts.{Act}
 use Rattle.working.specs.Entries.{bitFits, entryIn, entryTests, inRange, judge, lengthOf, mapFits, mapIn, rangeTests, rangesHold, readAs, rowOf, stands}
-use Rattle.working.specs.Events.{Bad, Decoded, Says, decode, decodedAs, eventOf}
-use Rattle.working.specs.declared.Act.the-variants.{Opens, Passes, Receives, Returns, Runs}
-use Rattle.working.specs.declared.Act.{Act}
+use Rattle.working.specs.Events.{At, Bad, Begin, Decoded, Event, Meet, Resume, Says, decode, decodedAs, eventOf}
 use Rattle.working.specs.declared.Entry.{Entry}
-use Rattle.working.specs.declared.Event.the-variants.{At, Begin, Meet, Resume}
-use Rattle.working.specs.declared.Event.{Event}
 use Rattle.working.specs.declared.Refusal.{Refusal}
 use Rattle.working.specs.declared.Verdict.the-variants.{Allowed, Refused}
 use Rattle.working.specs.declared.Verdict.{Verdict}
@@ -22,11 +20,11 @@ use mathlib.Core.Path.{_∙_, _≡_, ap, refl, subst, sym}
 use native.Mathlib.Omega.{arith}
 
 abbrev pub actTests : Act → List Bool
-actTests (Opens view class asked) = leb 1 class ∷ leb class 5 ∷ leb 1 asked ∷ leb asked 8 ∷ []
-actTests (Passes view) = []
-actTests (Returns asked granted) = leb asked 8 ∷ leb granted 8 ∷ []
-actTests (Runs view asked granted) = leb asked 8 ∷ leb granted 8 ∷ []
-actTests (Receives sender form) = []
+actTests (acts.Open view class asked) = leb 1 class ∷ leb class 5 ∷ leb 1 asked ∷ leb asked 8 ∷ []
+actTests (acts.Through view) = []
+actTests (acts.Return asked granted) = leb asked 8 ∷ leb granted 8 ∷ []
+actTests (acts.Train view asked granted) = leb asked 8 ∷ leb granted 8 ∷ []
+actTests (acts.Receive sender form) = []
 
 abbrev pub Ranged : Event → Type 0
 Ranged Begin = Unit {0}

@@ -48,10 +48,10 @@ arrives-far d t class Through r b = (
   λ o l h. kept-far d o _ Through l h refl refl (far-holds d o d Through l h) (omega arith) refl,
 )
 arrives-far d t class (Return a g) r b = (
-  record { last = refl; sent = refl; bounds = record { guest = b .guest; asked = or-else-le a (d .asked) (leb-true a 8 (r .1 .1 .0)) (b .asked); holds = leb-true g 8 (r .1 .1 .1 .0); owes = b .owes; interval = refl } },
+  record { last = refl; sent = refl; bounds = record { guest = b .guest; asked = or-else-le a (d .clears .asked) (leb-true a 8 (r .1 .1 .0)) (b .asked); holds = leb-true g 8 (r .1 .1 .1 .0); owes = b .owes; interval = refl } },
   λ o l h. kept-far d o _ (Return a g) l h refl refl refl (omega arith) refl,
 )
 arrives-far d t class (Train a g) r b = (
-  record { last = refl; sent = refl; bounds = record { guest = b .guest; asked = or-else-le a (d .asked) (leb-true a 8 (r .1 .0)) (b .asked); holds = leb-true g 8 (r .1 .1 .0); owes = omega (arith, b .owes); interval = refl } },
+  record { last = refl; sent = refl; bounds = record { guest = b .guest; asked = or-else-le a (d .clears .asked) (leb-true a 8 (r .1 .0)) (b .asked); holds = leb-true g 8 (r .1 .1 .0); owes = omega (arith, b .owes); interval = refl } },
   λ o l h. kept-far d o _ (Train a g) l h refl refl refl refl refl,
 )

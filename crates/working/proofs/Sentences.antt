@@ -75,17 +75,17 @@ unfolding stepOf wellMade decode readAt judge mapFits rangesHold entryIn lengthO
 opener-away = (refl, refl)
 
 -- "OPEN makes guest and asked", and clears nothing: an enquiry is no line clear
-enquiry-is-no-line-clear : (guest .b .guest ≡ 1) × (guest .b .asked ≡ 2) × (guest .b .holds ≡ 0)
+enquiry-is-no-line-clear : (guest .b .guest ≡ 1) × (guest .b .clears .asked ≡ 2) × (guest .b .clears .holds ≡ 0)
 unfolding guest stepOf wellMade decode readAt judge mapFits rangesHold entryIn lengthOf entered padTo
 enquiry-is-no-line-clear = (refl, refl, refl)
 
 -- "RETURN: guest and asked at S cleared; the vehicle has the guest's class and carries asked and granted; granted above 0 becomes S's owes."
-return-leaves : (returning .b .guest ≡ 0) × (returning .b .asked ≡ 0) × (returning .b .owes ≡ 2) × (vehicleAt returning 0 .class ≡ 1) × (vehicleAt returning 0 .movement ≡ Return 0 2)
+return-leaves : (returning .b .guest ≡ 0) × (returning .b .clears .asked ≡ 0) × (returning .b .clears .owes ≡ 2) × (vehicleAt returning 0 .class ≡ 1) × (vehicleAt returning 0 .movement ≡ Return 0 2)
 unfolding guest stepOf wellMade decode readAt judge mapFits rangesHold entryIn lengthOf entered padTo
 return-leaves = (refl, refl, refl, refl, refl)
 
 -- "TRAIN lowers owes by 1", at the station that receives it; "holds falls by 1" at the one that sent it
-train-arrives : (after holding (train 1 96 ∷ []) .a .holds ≡ 1) × (after holding (train 1 96 ∷ receive 2 130 1 2 ∷ []) .b .owes ≡ 1)
+train-arrives : (after holding (train 1 96 ∷ []) .a .clears .holds ≡ 1) × (after holding (train 1 96 ∷ receive 2 130 1 2 ∷ []) .b .clears .owes ≡ 1)
 unfolding guest holding stepOf wellMade decode readAt judge mapFits rangesHold entryIn lengthOf entered padTo
 train-arrives = (refl, refl)
 

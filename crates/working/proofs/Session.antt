@@ -42,6 +42,6 @@ the-session = refl
 last : Section
 last = sectionAfter fresh (turnsOf fresh session)
 
-the-end : (last .len ≡ 2) × (last .a .holds ≡ 0) × (last .a .owes ≡ 0) × (last .b .holds ≡ 0) × (last .b .owes ≡ 2)
+the-end : (last .len ≡ 2) × (last .a .clears .holds ≡ 0) × (last .a .clears .owes ≡ 0) × (last .b .clears .holds ≡ 0) × (last .b .clears .owes ≡ 2)
 unfolding last turnsFrom stepOf wellMade decode readAt judge mapFits rangesHold entryIn lengthOf entered padTo
 the-end = (refl, refl, refl, refl, refl)

@@ -2,45 +2,40 @@
 -- Each reads and alters its own desk and its own end of the line. They could meet only in a line of one vehicle: a departure into an empty line and its receipt
 -- at the other end, which is excluded, or two receipts of one vehicle, of which the second would be refused. It holds on every well-made section.
 -- Assumes nothing.
-use Prim.Native.Nat.{_+_, _<_, _≤_, suc, ℕ}
+use Prim.Native.Nat.{ℕ, _+_, _<_, _≤_, suc}
 use Rattle.working.proofs.Changes.{Sound, named-there, sound-step, step-is, well-at}
 use Rattle.working.proofs.Line.{insert-length, length-remove, nearest-insert, remove-insert, split-end}
 use Rattle.working.proofs.Made.{line-after, room-of}
-use Rattle.working.proofs.Plans.{Fate, arrives, departs, fate, refuses}
+use Rattle.working.proofs.Plans.{Fate, arrives, departs, fate, receive-passes, refuses}
 use Rattle.working.proofs.Ranges.{actTests, ranged-of}
-use Rattle.working.proofs.Tests.{Each, both, false-true, none-holds}
+use Rattle.working.proofs.Tests.{Each, both, false-true, none-holds, none-of-both}
+use Rattle.working.specs.Acts as acts
+use Rattle.working.specs.Acts.{Act}
 use Rattle.working.specs.Demand3.{ReceivesIt, formIn, isDeparture}
-use Rattle.working.specs.Effects.{arriveDesk, vehicleFor}
-use Rattle.working.specs.Events.{Says, decode}
-use Rattle.working.specs.Reasons.{isNamed, openTests, receiveTests, returnTests, trainTests}
-use Rattle.working.specs.Refusals.{firstOf}
+use Rattle.working.specs.Effects.{Arrive, Depart, Plan, Refuse, arriveDesk, effectOf}
+use Rattle.working.specs.Events.{At, Says, decode}
+use Rattle.working.specs.Reasons.{isNamed, receiveTests, stationTests, testsOf}
+use Rattle.working.specs.Refusals.{Test, firstOf}
 use Rattle.working.specs.Sections.{deskOf, insertAt, lineOf, nearestAt, numberAt, removeAt, withDesk, withLine}
 use Rattle.working.specs.Steps.{doneBy, entered, onDecoded, planOf, stepOf, unlessRefused}
 use Rattle.working.specs.Turns.{isAccepted}
 use Rattle.working.specs.WellMade.{oneIf}
-use Rattle.working.specs.declared.Act.the-variants.{Opens, Passes, Receives, Returns, Runs}
-use Rattle.working.specs.declared.Act.{Act}
 use Rattle.working.specs.declared.Answer.the-variants as answer
 use Rattle.working.specs.declared.Answer.{Answer}
 use Rattle.working.specs.declared.Desk.{Desk}
-use Rattle.working.specs.declared.Event.the-variants.{At}
-use Rattle.working.specs.declared.Movement.{Movement}
-use Rattle.working.specs.declared.Plan.the-variants.{Arrive, Depart, Refuse}
-use Rattle.working.specs.declared.Plan.{Plan}
 use Rattle.working.specs.declared.Section.{Section}
 use Rattle.working.specs.declared.Speed.the-variants.{NoSpeed}
-use Rattle.working.specs.declared.Speed.{Speed}
 use Rattle.working.specs.declared.Station.the-variants.{A, B}
 use Rattle.working.specs.declared.Station.{Station}
 use Rattle.working.specs.declared.Stepped.{Stepped}
 use Rattle.working.specs.declared.Vehicle.{Vehicle}
 use Rattle.working.specs.declared.Verdict.the-variants.{Allowed, Refused}
 use Rattle.working.specs.declared.Verdict.{Verdict}
-use borrow.Author.Tests.{eqb-true, not-false}
+use borrow.Author.Tests.{eqb-true}
 use lib.Dec.{eqb}
 use lib.ListN.{length}
 use mathlib.Core.Bool.{Bool, _&&_, false, true}
-use mathlib.Core.List.{List, [], _∷_}
+use mathlib.Core.List.{List, [], _++_, _∷_}
 use mathlib.Core.Path.{_∙_, _≡_, ap, ap₂, refl, sym}
 use native.Mathlib.Omega.{arith}
 
@@ -92,107 +87,106 @@ module _ {x y : Station} (o : Opposite x y) where
 
 abbrev goes : Plan → Bool
 goes (Refuse r) = false
-goes (Depart d m c f p) = true
+goes (Depart p) = true
 goes (Arrive d) = true
 
 -- how many it takes off the line
 abbrev takes : Plan → ℕ
 takes (Refuse r) = 0
-takes (Depart d m c f p) = 0
+takes (Depart p) = 0
 takes (Arrive d) = 1
 
 abbrev lineBy : Station → Plan → List Vehicle → List Vehicle
 lineBy x (Refuse r) l = l
-lineBy x (Depart d m c f p) l = insertAt x (vehicleFor x (d .last) m c) l
+lineBy x (Depart p) l = insertAt x (p .vehicle) l
 lineBy x (Arrive d) l = removeAt x l
 
 abbrev deskBy : Plan → Desk → Desk
 deskBy (Refuse r) e = e
-deskBy (Depart d m c f p) e = d
+deskBy (Depart p) e = p .desk
 deskBy (Arrive d) e = d
 
 abbrev answerBy : Plan → Answer
 answerBy (Refuse r) = answer.Refused r
-answerBy (Depart d m c f p) = answer.Accepted (d .last) f p
+answerBy (Depart p) = answer.Accepted (p .vehicle .form) (p .order .forms) (p .order .speed)
 answerBy (Arrive d) = answer.Accepted 0 0 NoSpeed
 
 done-answer : (s : Section) (x : Station) (p : Plan) → doneBy s x p .answer ≡ answerBy p
 done-answer s x (Refuse r) = refl
-done-answer s x (Depart d m c f p) = refl
+done-answer s x (Depart p) = refl
 done-answer s x (Arrive d) = refl
 
 done-section : (s : Section) (x : Station) (p : Plan) → goes p ≡ true → doneBy s x p .section ≡ withDesk (withLine s (lineBy x p (lineOf s))) x (deskBy p (deskOf s x))
 done-section s x (Refuse r) g = absurd (false-true g)
-done-section s x (Depart d m c f p) g = refl
+done-section s x (Depart p) g = refl
 done-section s x (Arrive d) g = refl
 
 accepted-goes : (p : Plan) → isAccepted (answerBy p) ≡ true → goes p ≡ true
 accepted-goes (Refuse r) h = absurd (false-true h)
-accepted-goes (Depart d m c f p) h = refl
+accepted-goes (Depart p) h = refl
 accepted-goes (Arrive d) h = refl
 
 -- the other end is as it was
 near-by : {x y : Station} → Opposite x y → (p : Plan) (l : List Vehicle) → takes p + 1 ≤ length l → nearestAt y (lineBy x p l) ≡ nearestAt y l
 near-by o (Refuse r) l h = refl
-near-by {x} o (Depart d m c f p) l h = near-inserted o (vehicleFor x (d .last) m c) l (omega arith)
+near-by o (Depart p) l h = near-inserted o (p .vehicle) l (omega arith)
 near-by o (Arrive d) l h = near-removed o l (omega arith)
 
 line-by : {x y : Station} → Opposite x y → (p q : Plan) (l : List Vehicle) → takes p + takes q ≤ length l → lineBy y q (lineBy x p l) ≡ lineBy x p (lineBy y q l)
 line-by o (Refuse r) q l h = refl
-line-by o (Depart d m c f p) (Refuse r) l h = refl
-line-by {x} {y} o (Depart d m c f p) (Depart d₁ m₁ c₁ f₁ p₁) l h = sym (far-insert o (vehicleFor x (d .last) m c) (vehicleFor y (d₁ .last) m₁ c₁) l)
-line-by {x} o (Depart d m c f p) (Arrive d₁) l h = remove-inserted o (vehicleFor x (d .last) m c) l (omega arith)
+line-by o (Depart p) (Refuse r) l h = refl
+line-by o (Depart p) (Depart q) l h = sym (far-insert o (p .vehicle) (q .vehicle) l)
+line-by o (Depart p) (Arrive d₁) l h = remove-inserted o (p .vehicle) l (omega arith)
 line-by o (Arrive d) (Refuse r) l h = refl
-line-by {x} {y} o (Arrive d) (Depart d₁ m₁ c₁ f₁ p₁) l h = sym (remove-inserted (flip o) (vehicleFor y (d₁ .last) m₁ c₁) l (omega arith))
+line-by o (Arrive d) (Depart q) l h = sym (remove-inserted (flip o) (q .vehicle) l (omega arith))
 line-by o (Arrive d) (Arrive d₁) l h = removed-both o l (omega arith)
 
 -- ---- what a plan reads
 
 abbrev pub isReceive : Act → Bool
-isReceive (Opens a b c) = false
-isReceive (Passes a) = false
-isReceive (Returns a b) = false
-isReceive (Runs a b c) = false
-isReceive (Receives y n) = true
+isReceive (acts.Open a b c) = false
+isReceive (acts.Through a) = false
+isReceive (acts.Return a b) = false
+isReceive (acts.Train a b c) = false
+isReceive (acts.Receive y n) = true
 
 -- only a RECEIVE reads the vehicle nearest the station
 plan-same : (act : Act) (x : Station) (f : Bool) (d : Desk) (t : ℕ) (v w : Vehicle) → (isReceive act ≡ true → v ≡ w) → planOf act x f d t v ≡ planOf act x f d t w
-plan-same (Opens a b c) x f d t v w h = refl
-plan-same (Passes a) x f d t v w h = refl
-plan-same (Returns a b) x f d t v w h = refl
-plan-same (Runs a b c) x f d t v w h = refl
-plan-same (Receives y n) x f d t v w h = ap (planOf (Receives y n) x f d t) (h refl)
+plan-same (acts.Open a b c) x f d t v w h = refl
+plan-same (acts.Through a) x f d t v w h = refl
+plan-same (acts.Return a b) x f d t v w h = refl
+plan-same (acts.Train a b c) x f d t v w h = refl
+plan-same (acts.Receive y n) x f d t v w h = ap (planOf (acts.Receive y n) x f d t) (h refl)
+
+effect-takes : (act : Act) (x : Station) (d : Desk) (t : ℕ) (v : Vehicle) → takes (effectOf act x d t v) ≡ oneIf (isReceive act)
+effect-takes (acts.Open a b c) x d t v = refl
+effect-takes (acts.Through a) x d t v = refl
+effect-takes (acts.Return a b) x d t v = refl
+effect-takes (acts.Train a b c) x d t v = refl
+effect-takes (acts.Receive y n) x d t v = refl
 
 plan-takes : (act : Act) (x : Station) (f : Bool) (d : Desk) (t : ℕ) (v : Vehicle) → goes (planOf act x f d t v) ≡ true → takes (planOf act x f d t v) ≡ oneIf (isReceive act)
-plan-takes act x f d t v = elim-plan act
+plan-takes act x f d t v = by (firstOf (testsOf act x f d t v))
   where
-    depart : (r : Verdict) (e : Desk) (m : Movement) (c k : ℕ) (p : Speed) → goes (unlessRefused r (Depart e m c k p)) ≡ true → takes (unlessRefused r (Depart e m c k p)) ≡ 0
-    depart (Refused j) e m c k p g = refl
-    depart Allowed e m c k p g = refl
-
-    arrive : (r : Verdict) (e : Desk) → goes (unlessRefused r (Arrive e)) ≡ true → takes (unlessRefused r (Arrive e)) ≡ 1
-    arrive (Refused j) e g = absurd (false-true g)
-    arrive Allowed e g = refl
-
-    elim-plan : (act : Act) → goes (planOf act x f d t v) ≡ true → takes (planOf act x f d t v) ≡ oneIf (isReceive act)
-    elim-plan (Opens a b c) g = depart (firstOf (openTests f d t)) _ _ _ _ _ g
-    elim-plan (Passes a) g = depart (firstOf (openTests f d t)) _ _ _ _ _ g
-    elim-plan (Returns a b) g = depart (firstOf (returnTests f d t b)) _ _ _ _ _ g
-    elim-plan (Runs a b c) g = depart (firstOf (trainTests f d t c)) _ _ _ _ _ g
-    elim-plan (Receives y n) g = arrive (firstOf (receiveTests x f d t y n v)) _ g
+    by : (r : Verdict) → goes (unlessRefused r (effectOf act x d t v)) ≡ true → takes (unlessRefused r (effectOf act x d t v)) ≡ oneIf (isReceive act)
+    by (Refused j) g = absurd (false-true g)
+    by Allowed g = effect-takes act x d t v
 
 -- the vehicle that a RECEIVE takes is the one it names
 plan-named : (act : Act) (x : Station) (f : Bool) (d : Desk) (t : ℕ) (v : Vehicle) → isReceive act ≡ true → goes (planOf act x f d t v) ≡ true
-    → (y : Station) × (n : ℕ) × (act ≡ Receives y n) × (isNamed y n v ≡ true)
-plan-named (Opens a b c) x f d t v h g = absurd (false-true h)
-plan-named (Passes a) x f d t v h g = absurd (false-true h)
-plan-named (Returns a b) x f d t v h g = absurd (false-true h)
-plan-named (Runs a b c) x f d t v h g = absurd (false-true h)
-plan-named (Receives y n) x f d t v h g = (y, n, refl, go (firstOf (receiveTests x f d t y n v)) refl g)
+    → (y : Station) × (n : ℕ) × (act ≡ acts.Receive y n) × (isNamed y n v ≡ true)
+plan-named (acts.Open a b c) x f d t v h g = absurd (false-true h)
+plan-named (acts.Through a) x f d t v h g = absurd (false-true h)
+plan-named (acts.Return a b) x f d t v h g = absurd (false-true h)
+plan-named (acts.Train a b c) x f d t v h g = absurd (false-true h)
+plan-named (acts.Receive y n) x f d t v h g = (y, n, refl, go (firstOf tests) refl g)
   where
-    go : (r : Verdict) → firstOf (receiveTests x f d t y n v) ≡ r → goes (unlessRefused r (Arrive (arriveDesk x d t v))) ≡ true → isNamed y n v ≡ true
+    tests : List Test
+    tests = stationTests f d t ++ receiveTests x y n v
+
+    go : (r : Verdict) → firstOf tests ≡ r → goes (unlessRefused r (Arrive (arriveDesk x d t v))) ≡ true → isNamed y n v ≡ true
     go (Refused j) e k = absurd (false-true k)
-    go Allowed e k = not-false (isNamed y n v) (none-holds (receiveTests x f d t y n v) e .1 .1 .0)
+    go Allowed e k = receive-passes x y n v (none-of-both (stationTests f d t) (receiveTests x y n v) (none-holds tests e) .1) .named
 
 -- into an empty line and out again at the other end: the second receives what the first sent
 one-there : (x y : Station) (v : Vehicle) → nearestAt y (insertAt x v []) ≡ v
@@ -208,20 +202,40 @@ same-station B A h = absurd (false-true h)
 same-station B B h = refl
 
 departure-of : (act : Act) → isReceive act ≡ false → isDeparture act ≡ true
-departure-of (Opens a b c) h = refl
-departure-of (Passes a) h = refl
-departure-of (Returns a b) h = refl
-departure-of (Runs a b c) h = refl
-departure-of (Receives y n) h = absurd (false-true (sym h))
+departure-of (acts.Open a b c) h = refl
+departure-of (acts.Through a) h = refl
+departure-of (acts.Return a b) h = refl
+departure-of (acts.Train a b c) h = refl
+departure-of (acts.Receive y n) h = absurd (false-true (sym h))
 
-just-sent : (x y z : Station) (n : ℕ) (p : Plan) → goes p ≡ true → takes p ≡ 0
-    → isNamed z n (nearestAt y (lineBy x p [])) ≡ true → Receives z n ≡ Receives x (formIn (answerBy p))
-just-sent x y z n (Refuse r) g k named = absurd (false-true g)
-just-sent x y z n (Arrive d) g k named = absurd (omega arith)
-just-sent x y z n (Depart d m c f p) g k named =
-    let h : (eqb (numberAt x) (numberAt z) && eqb (d .last) n) ≡ true = rw (one-there x y (vehicleFor x (d .last) m c)) at named in
-    let q = both (eqb (numberAt x) (numberAt z)) (eqb (d .last) n) h in
-    ap₂ Receives (same-station x z (q .0)) (sym (eqb-true (d .last) n (q .1)))
+-- the vehicle that a departure puts in is the station's own
+abbrev OwnVehicle : Station → Plan → Type 0
+OwnVehicle x (Refuse r) = Unit {0}
+OwnVehicle x (Depart p) = p .vehicle .sender ≡ numberAt x
+OwnVehicle x (Arrive d) = Unit {0}
+
+own-vehicle : (act : Act) (x : Station) (f : Bool) (d : Desk) (t : ℕ) (v : Vehicle) → OwnVehicle x (planOf act x f d t v)
+own-vehicle act x f d t v = by (firstOf (testsOf act x f d t v))
+  where
+    effect : (act : Act) → OwnVehicle x (effectOf act x d t v)
+    effect (acts.Open a b c) = refl
+    effect (acts.Through a) = refl
+    effect (acts.Return a b) = refl
+    effect (acts.Train a b c) = refl
+    effect (acts.Receive y n) = tt
+
+    by : (r : Verdict) → OwnVehicle x (unlessRefused r (effectOf act x d t v))
+    by (Refused j) = tt
+    by Allowed = effect act
+
+just-sent : (x y z : Station) (n : ℕ) (p : Plan) → goes p ≡ true → takes p ≡ 0 → OwnVehicle x p
+    → isNamed z n (nearestAt y (lineBy x p [])) ≡ true → acts.Receive z n ≡ acts.Receive x (formIn (answerBy p))
+just-sent x y z n (Refuse r) g k from named = absurd (false-true g)
+just-sent x y z n (Arrive d) g k from named = absurd (omega arith)
+just-sent x y z n (Depart p) g k from named =
+    let h : (eqb (p .vehicle .sender) (numberAt z) && eqb (p .vehicle .form) n) ≡ true = rw (one-there x y (p .vehicle)) at named in
+    let q = both (eqb (p .vehicle .sender) (numberAt z)) (eqb (p .vehicle .form) n) h in
+    ap₂ acts.Receive (same-station x z (rw from at (q .0))) (sym (eqb-true (p .vehicle .form) n (q .1)))
 
 -- ---- the two steps
 
@@ -248,12 +262,12 @@ plan-after {x} {y} o s d l t act h = rw (force-with s x d l, desk-far o s d l, l
 
 desk-go : (p : Plan) (d e : Desk) → goes p ≡ true → deskBy p d ≡ deskBy p e
 desk-go (Refuse r) d e g = absurd (false-true g)
-desk-go (Depart b m c f p) d e g = refl
+desk-go (Depart p) d e g = refl
 desk-go (Arrive b) d e g = refl
 
 fits-by : (s : Section) (x : Station) (t : ℕ) (act : Act) (p : Plan) → Sound s → Fate act x (s .force) (deskOf s x) t (nearestAt x (lineOf s)) p → length (lineBy x p (lineOf s)) ≤ 24
 fits-by s x t act p g (refuses r) = well-at s x g .fits
-fits-by s x t act p g (departs {e = e} {m} {class} f q) = omega (arith, insert-length x (vehicleFor x (e .last) m class) (lineOf s), room-of (well-at s x g) (q .room))
+fits-by s x t act p g (departs {p = q} f leaves) = omega (arith, insert-length x (q .vehicle) (lineOf s), room-of (well-at s x g) (leaves .room))
 fits-by s x t act p g (arrives y n e f named may) = omega (arith, length-remove x (lineOf s) (named-there y n x (lineOf s) named), well-at s x g .fits)
 
 module _ (s : Section) (g : Sound s) where
@@ -288,13 +302,16 @@ module _ (s : Section) (g : Sound s) where
         let m = plan-named bct y (s .force) (deskOf s y) u (nearestAt y (lineBy x p (lineOf s))) h (ap goes (sym is-q) ∙ go-q) in
         go (m .0) (m .1) (m .2) (lineOf s) (m .3)
       where
-        go : (z : Station) (n : ℕ) → bct ≡ Receives z n → (l : List Vehicle) → isNamed z n (nearestAt y (lineBy x p l)) ≡ true → 0 < length l
+        its-own : OwnVehicle x p
+        its-own = rw is-p (own-vehicle act x (s .force) (deskOf s x) t (nearestAt x (lineOf s)))
+
+        go : (z : Station) (n : ℕ) → bct ≡ acts.Receive z n → (l : List Vehicle) → isNamed z n (nearestAt y (lineBy x p l)) ≡ true → 0 < length l
         go z n e (v ∷ l) named = omega arith
-        go z n e [] named = absurd (apart (departure-of act k, e ∙ just-sent x y z n p go-p (takes-p ∙ ap oneIf k) named))
+        go z n e [] named = absurd (apart (departure-of act k, e ∙ just-sent x y z n p go-p (takes-p ∙ ap oneIf k) its-own named))
 
     fewer : (p : Plan) → takes p ≡ 1 → 0 < length (lineOf s) → suc (length (lineBy x p (lineOf s))) ≡ length (lineOf s)
     fewer (Refuse k) e h = absurd (omega arith)
-    fewer (Depart a b c d e) k h = absurd (omega arith)
+    fewer (Depart a) k h = absurd (omega arith)
     fewer (Arrive a) e h = length-remove x (lineOf s) h
 
     enough : takes p + takes q ≤ length (lineOf s)
@@ -377,7 +394,7 @@ swapped s b c x y t u act bct o g eb ec ok₁ ok₂ apart =
     let go-q : goes q ≡ true = accepted-goes q (ap isAccepted (sym (ap answerOf s₁-c ∙ done-answer s₁ y q)) ∙ ok-q) in
     let is-q : q ≡ planOf bct y (s .force) (deskOf s y) u (nearestAt y (lineBy x p (lineOf s))) =
     ap (λ (z : Section). planAt z y u bct) (done-section s x p go-p) ∙ plan-after o s (deskBy p (deskOf s x)) (lineBy x p (lineOf s)) u bct (fated s g x t act r) in
-    let side : ReceivesIt act x (answerBy p) bct → ⊥ = λ f. apart (f .0, f .1 ∙ ap (λ (a : Answer). Receives x (formIn a)) (sym (ap answerOf s-b ∙ done-answer s x p))) in
+    let side : ReceivesIt act x (answerBy p) bct → ⊥ = λ f. apart (f .0, f .1 ∙ ap (λ (a : Answer). acts.Receive x (formIn a)) (sym (ap answerOf s-b ∙ done-answer s x p))) in
     let s₂ = doneBy s y q .section in
     let s-c : stepOf s c ≡ doneBy s y q = step-at s c y u bct g ec ∙ ap (doneBy s y) (sym (q-first s g o t u act bct r r₁ p q refl go-p go-q is-q side)) in
     let g₂ : Sound s₂ = rw s-c at (sound-step s c g) in

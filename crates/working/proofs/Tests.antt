@@ -1,12 +1,12 @@
 -- Tests: what a conjunction, a disjunction and a list of tests say of their parts.
 -- Assumes nothing.
 use Rattle.working.specs.Entries.{every}
-use Rattle.working.specs.Refusals.{firstOf, orElse}
+use Rattle.working.specs.Refusals.{Test, firstOf, orElse}
 use Rattle.working.specs.declared.Refusal.{Refusal}
 use Rattle.working.specs.declared.Verdict.the-variants.{Allowed}
 use Rattle.working.specs.declared.Verdict.{Verdict}
 use mathlib.Core.Bool.{Bool, _&&_, _||_, false, true, true≢false}
-use mathlib.Core.List.{List, [], _∷_}
+use mathlib.Core.List.{List, [], _++_, _∷_}
 use mathlib.Core.Path.{_∙_, _≡_, refl, sym}
 
 pub false-true : false ≡ true → ⊥
@@ -58,7 +58,7 @@ every-holds (t ∷ ts) e = and t (every ts) (e .0) (every-holds ts (e .1))
 
 -- ---- a list of refusals of which none applies
 
-abbrev pub NoneHolds : List (Bool × Refusal) → Type 0
+abbrev pub NoneHolds : List Test → Type 0
 NoneHolds [] = Unit {0}
 NoneHolds (t ∷ ts) = (t .0 ≡ false) × NoneHolds ts
 
@@ -66,6 +66,11 @@ test-fails : (test : Bool) (why : Refusal) (later : Verdict) → orElse test why
 test-fails true why later e = (cc, cc)
 test-fails false why later e = (refl, e)
 
-pub none-holds : (ts : List (Bool × Refusal)) → firstOf ts ≡ Allowed → NoneHolds ts
+pub none-holds : (ts : List Test) → firstOf ts ≡ Allowed → NoneHolds ts
 none-holds [] e = tt
 none-holds (t ∷ ts) e = let p = test-fails (t .0) (t .1) (firstOf ts) e in (p .0, none-holds ts (p .1))
+
+-- of two lists in a row, none of either
+pub none-of-both : (ts us : List Test) → NoneHolds (ts ++ us) → NoneHolds ts × NoneHolds us
+none-of-both [] us n = (tt, n)
+none-of-both (t ∷ ts) us n = let p = none-of-both ts us (n .1) in ((n .0, p .0), p .1)

@@ -1,7 +1,7 @@
 -- Each vehicle present has its departure in the list of steps, of the kind that its record says; an OPEN or THROUGH left on T/B 602 at 15 km/h or less.
 -- A step that is no accepted departure adds none; one that is takes a form number that no vehicle present has.
 -- Assumes nothing.
-use Prim.Native.Nat.{_+_, _≤_, suc, ℕ}
+use Prim.Native.Nat.{ℕ, _+_, _≤_, suc}
 use Rattle.working.proofs.Changes.{Change, Sound, arrival, departure, emptying, meeting, nearest-of, refusal, well-arrive, well-at, well-depart}
 use Rattle.working.proofs.Invariant.{granted, trainOne, trains}
 use Rattle.working.proofs.Line.{Every, every-insert, every-map, every-rest, every-turn, number-same}
@@ -10,18 +10,17 @@ use Rattle.working.proofs.Meeting.{turn-length}
 use Rattle.working.proofs.Plans.{Departs}
 use Rattle.working.proofs.Sides.{moves-weight, movesOf}
 use Rattle.working.proofs.Tests.{both}
+use Rattle.working.specs.Acts.{Act}
 use Rattle.working.specs.Demand3.{grantedIn, ofStation}
 use Rattle.working.specs.Departures.{Departure, Kind, departureBy, departureOf, departureWith, ifOf, kindIn, kindOf, laterOr, leftOnTrain, leftSlowly}
-use Rattle.working.specs.Effects.{vehicleFor}
-use Rattle.working.specs.Events.{Bad, Decoded, Says, decode}
+use Rattle.working.specs.Effects.{Departing}
+use Rattle.working.specs.Events.{At, Bad, Begin, Decoded, Meet, Resume, Says, decode}
 use Rattle.working.specs.Runs.{Done}
 use Rattle.working.specs.Sections.{deskOf, insertAt, lineOf, numberAt}
 use Rattle.working.specs.Steps.{metAt, turnAt, turned}
 use Rattle.working.specs.WellMade.{all, isFrom, isOpener, numbered, oneIf, sumOver}
-use Rattle.working.specs.declared.Act.{Act}
 use Rattle.working.specs.declared.Answer.the-variants.{Accepted, Refused}
 use Rattle.working.specs.declared.Desk.{Desk}
-use Rattle.working.specs.declared.Event.the-variants.{At, Begin, Meet, Resume}
 use Rattle.working.specs.declared.Movement.{Movement}
 use Rattle.working.specs.declared.Refusal.{Refusal}
 use Rattle.working.specs.declared.Section.{Section}
@@ -121,25 +120,24 @@ refused-none (Says Resume) why = refl
 -- ---- every step keeps it
 
 told-depart : (h : List Done) (d : Done) (s : Section) → Sound s → Every (Told h) (lineOf s)
-    → (x : Station) (time : ℕ) (act : Act) (e : Desk) (m : Movement) (class forms : ℕ) (speed : Speed) → Departs act x (deskOf s x) e m class forms speed
-    → decode (d .bytes) ≡ Says (At x time act) → d .answer ≡ Accepted (e .last) forms speed
-    → Every (Told (h ++ d ∷ [])) (insertAt x (vehicleFor x (e .last) m class) (lineOf s))
-told-depart h d s g told x time act e m class forms speed p q a =
-    let v = vehicleFor x (e .last) m class in
-    let this : Departure = record { station = x; kind = kindIn m; number = e .last; forms = forms; speed = speed } in
-    let by : departureBy (decode (d .bytes)) (d .answer) ≡ some this = rw (q, a, p .kind) in
-    let its : ifOf v (departureBy (decode (d .bytes)) (d .answer)) ≡ some this = ap (ifOf v) by ∙ rw (number-same x, eq-eqb (e .last) (e .last) refl) in
+    → (x : Station) (time : ℕ) (act : Act) (p : Departing) → Departs act x (deskOf s x) p
+    → decode (d .bytes) ≡ Says (At x time act) → d .answer ≡ Accepted (p .vehicle .form) (p .order .forms) (p .order .speed)
+    → Every (Told (h ++ d ∷ [])) (insertAt x (p .vehicle) (lineOf s))
+told-depart h d s g told x time act p leaves q a =
+    let v = p .vehicle in
+    let this : Departure = record { station = x; kind = kindIn (v .movement); number = v .form; forms = p .order .forms; speed = p .order .speed } in
+    let by : departureBy (decode (d .bytes)) (d .answer) ≡ some this = rw (q, a, leaves .kind) in
+    let its : ifOf v (departureBy (decode (d .bytes)) (d .answer)) ≡ some this = ap (ifOf v) by ∙ rw (leaves .sender, number-same x, eq-eqb (v .form) (v .form) refl) in
     every-insert (Told (h ++ d ∷ [])) x v (lineOf s)
-    (record { by = this; is = departure-snoc h d v ∙ ap (λ (k : Option Departure). laterOr k (departureOf h v)) its; kind = refl; slowly = p .slowly })
-    (one-more h d this (deskOf s x .last) by (p .last) (lineOf s) (well-at s x g .own .number) told)
+    (record { by = this; is = departure-snoc h d v ∙ ap (λ (k : Option Departure). laterOr k (departureOf h v)) its; kind = refl; slowly = leaves .slowly })
+    (one-more h d this (deskOf s x .last) by (leaves .form) (lineOf s) (well-at s x g .own .number) told)
 
 pub told-change : (h : List Done) (d : Done) (s : Section) (e : Decoded) (r : Stepped) → Sound s → Change s e r → decode (d .bytes) ≡ e → d .answer ≡ r .answer
     → Every (Told h) (lineOf s) → Every (Told (h ++ d ∷ [])) (lineOf (r .section))
 told-change h d s e r g (refusal k why) q a t = none-more h d (ap (departureBy (decode (d .bytes))) a ∙ refused-none (decode (d .bytes)) why) (lineOf s) t
 told-change h d s e r g (emptying k force n) q a t = tt
-told-change h d s e r g (departure x time act {d = e′} {m} {class} {forms} {speed} f p) q a t =
-    rw (line-after s x e′ (insertAt x (vehicleFor x (e′ .last) m class) (lineOf s)) (well-depart s act x e′ m class forms speed g p .fits))
-    (told-depart h d s g t x time act e′ m class forms speed p q a)
+told-change h d s e r g (departure x time act {p} f leaves) q a t =
+    rw (line-after s x (p .desk) (insertAt x (p .vehicle) (lineOf s)) (well-depart s act x p g leaves .fits)) (told-depart h d s g t x time act p leaves q a)
 told-change h d s e r g (arrival x time y n f named may) q a t =
     let by : departureBy (decode (d .bytes)) (d .answer) ≡ none = rw q in
     let k = nearest-of y n x (lineOf s) named in

@@ -1,16 +1,15 @@
 -- Demand 3, one statement about every list of steps from a fresh section. In plain words, clause by clause, beside document 01: docs/THEOREM.md.
 use Prim.Native.Nat.{_+_, _<_, ℕ}
+use Rattle.working.specs.Acts as acts
+use Rattle.working.specs.Acts.{Act}
 use Rattle.working.specs.Departures.{Departure, Kind, departureOf, kindIn, kindOf, leftOnTrain, leftSlowly}
-use Rattle.working.specs.Events.{Says, decode}
+use Rattle.working.specs.Events.{At, Says, decode}
 use Rattle.working.specs.Runs.{Done, Run, results, resultsOf}
 use Rattle.working.specs.Sections.{deskOf, fresh, lineOf, numberAt, otherAt, unused}
 use Rattle.working.specs.Turns.{isAccepted}
 use Rattle.working.specs.WellMade.{isFrom, oneIf, sumOver}
-use Rattle.working.specs.declared.Act.the-variants.{Receives}
-use Rattle.working.specs.declared.Act.{Act}
 use Rattle.working.specs.declared.Answer.the-variants.{Accepted, Refused}
 use Rattle.working.specs.declared.Answer.{Answer}
-use Rattle.working.specs.declared.Event.the-variants.{At}
 use Rattle.working.specs.declared.Movement.the-variants.{Open, Return, Through, Train}
 use Rattle.working.specs.declared.Movement.{Movement}
 use Rattle.working.specs.declared.Section.{Section}
@@ -68,7 +67,7 @@ isDeparture act = isSome (kindOf act)
 
 -- "The second of two entries receives what the first sent where the first is a departure and the second a RECEIVE that names the first's station as sender and the form number in the first's answer."
 abbrev pub ReceivesIt : Act → Station → Answer → Act → Type 0
-ReceivesIt first x answer second = (isDeparture first ≡ true) × (second ≡ Receives x (formIn answer))
+ReceivesIt first x answer second = (isDeparture first ≡ true) × (second ≡ acts.Receive x (formIn answer))
 
 -- ---- the whole
 
@@ -81,7 +80,7 @@ pub record Demand3 {l : List Done} {s : Section} (run : Run fresh l s) : Type 0 
   pub opposed : (i j : ℕ) → i < j → j < s .len → vehicleAt s i .heading ≡ numberAt B → vehicleAt s j .heading ≡ numberAt A
       → (leftSlowly (departureOf l (vehicleAt s i)) ≡ true) × (leftSlowly (departureOf l (vehicleAt s j)) ≡ true)
   -- line clears owed by each station = those the other holds + the other's trains in the section + line clears on the way to the other
-  pub owed : s .force ≡ true → (x : Station) → deskOf s x .owes ≡ deskOf s (otherAt x) .holds + trainsOf l s (otherAt x) + onTheWayTo s (otherAt x)
+  pub owed : s .force ≡ true → (x : Station) → deskOf s x .clears .owes ≡ deskOf s (otherAt x) .clears .holds + trainsOf l s (otherAt x) + onTheWayTo s (otherAt x)
   -- two neighbours change places: every entry has the same answer, and the section is the same in every figure
   pub swap : (before : List Done) (d e : Done) (after : List Done) (x y : Station) (first second : Act) → l ≡ before ++ d ∷ e ∷ after
       → AcceptedAt d x first → AcceptedAt e y second → (x ≡ y → ⊥) → (ReceivesIt first x (d .answer) second → ⊥)

@@ -1,14 +1,13 @@
 -- Document 01: a vehicle's departure, as the list of steps tells it, and what it left on.
 use Prim.Native.Nat.{_%_, ℕ}
+use Rattle.working.specs.Acts as acts
+use Rattle.working.specs.Acts.{Act}
 use Rattle.working.specs.Effects.{isSlow}
-use Rattle.working.specs.Events.{Bad, Decoded, Says, decode}
+use Rattle.working.specs.Events.{At, Bad, Begin, Decoded, Meet, Resume, Says, decode}
 use Rattle.working.specs.Runs.{Done}
 use Rattle.working.specs.Sections.{numberAt}
-use Rattle.working.specs.declared.Act.the-variants.{Opens, Passes, Receives, Returns, Runs}
-use Rattle.working.specs.declared.Act.{Act}
 use Rattle.working.specs.declared.Answer.the-variants.{Accepted, Refused}
 use Rattle.working.specs.declared.Answer.{Answer}
-use Rattle.working.specs.declared.Event.the-variants.{At, Begin, Meet, Resume}
 use Rattle.working.specs.declared.Movement.the-variants.{Open, Return, Through, Train}
 use Rattle.working.specs.declared.Movement.{Movement}
 use Rattle.working.specs.declared.Speed.{Speed}
@@ -38,11 +37,11 @@ pub record Departure : Type 0 where
   pub speed : Speed
 
 abbrev pub kindOf : Act → Option Kind
-kindOf (Opens view class asked) = some OPEN
-kindOf (Passes view) = some THROUGH
-kindOf (Returns asked granted) = some RETURN
-kindOf (Runs view asked granted) = some TRAIN
-kindOf (Receives sender form) = none
+kindOf (acts.Open view class asked) = some OPEN
+kindOf (acts.Through view) = some THROUGH
+kindOf (acts.Return asked granted) = some RETURN
+kindOf (acts.Train view asked granted) = some TRAIN
+kindOf (acts.Receive sender form) = none
 
 abbrev pub departureWith : Station → Option Kind → Answer → Option Departure
 departureWith x none answer = none

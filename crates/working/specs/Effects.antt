@@ -1,11 +1,14 @@
 -- Document 01, "Each entry's effect": speeds, forms, and the desk after a departure and after a receipt. S is the entry's station, O the other.
 use Prim.Native.Nat.{_+_, _-_, ℕ}
+use Rattle.working.specs.Acts as acts
+use Rattle.working.specs.Acts.{Act}
 use Rattle.working.specs.Sections.{numberAt, otherAt}
+use Rattle.working.specs.declared.Clears.{Clears}
 use Rattle.working.specs.declared.Desk.{Desk}
 use Rattle.working.specs.declared.Interval.the-variants.{Since, Stopped}
-use Rattle.working.specs.declared.Interval.{Interval}
 use Rattle.working.specs.declared.Movement.the-variants.{Open, Return, Through, Train}
 use Rattle.working.specs.declared.Movement.{Movement}
+use Rattle.working.specs.declared.Refusal.{Refusal}
 use Rattle.working.specs.declared.Speed.the-variants.{Booked, Kmh, NoSpeed, Walking}
 use Rattle.working.specs.declared.Speed.{Speed}
 use Rattle.working.specs.declared.Station.the-variants.{A, B}
@@ -66,13 +69,20 @@ clearForms x booked asked granted = wayForm x + 32 + cond booked 128 64 + cond (
 abbrev pub vehicleFor : Station → ℕ → Movement → ℕ → Vehicle
 vehicleFor x form movement class = record { movement = movement; sender = numberAt x; form = form; heading = numberAt (otherAt x); met = false; class = class }
 
-abbrev pub desk : ℕ → ℕ → ℕ → Interval → Bool → ℕ → ℕ → ℕ → ℕ → Desk
-desk clock last sent interval out guest asked holds owes =
-    record { clock = clock; last = last; sent = sent; interval = interval; out = out; guest = guest; asked = asked; holds = holds; owes = owes }
+-- "takes the next form number of S"
+abbrev pub nextForm : Desk → ℕ
+nextForm d = d .last + 1
 
--- "takes the next form number of S, .. adds 1 to sent and starts the interval"; then out, guest, asked, holds and owes
-abbrev pub departed : Desk → ℕ → Bool → ℕ → ℕ → ℕ → ℕ → Desk
-departed d time = desk time (d .last + 1) (d .sent + 1) (Since time)
+-- what an act makes of the figures that tell the kinds apart
+pub record Standing : Type 0 where
+  pub out : Bool
+  pub guest : ℕ
+  pub clears : Clears
+
+-- "takes the next form number of S, .. adds 1 to sent and starts the interval"
+abbrev pub departed : Desk → ℕ → Standing → Desk
+departed d time to =
+    record { clock = time; last = nextForm d; sent = d .sent + 1; interval = Since time; out = to .out; guest = to .guest; clears = to .clears }
 
 -- n where it is above 0, else what stood there
 abbrev pub ifAny : ℕ → ℕ → ℕ
@@ -80,39 +90,99 @@ ifAny n before = cond (ltb 0 n) n before
 
 -- "OPEN: out is set."
 abbrev pub openDesk : Desk → ℕ → Desk
-openDesk d time = departed d time true (d .guest) (d .asked) (d .holds) (d .owes)
+openDesk d time = departed d time (record { out = true; guest = d .guest; clears = d .clears })
 
 -- "THROUGH: nothing more."
 abbrev pub throughDesk : Desk → ℕ → Desk
-throughDesk d time = departed d time (d .out) (d .guest) (d .asked) (d .holds) (d .owes)
+throughDesk d time = departed d time (record { out = d .out; guest = d .guest; clears = d .clears })
 
 -- "RETURN: guest and asked at S cleared; .. granted above 0 becomes S's owes"
+abbrev pub returnClears : Clears → ℕ → Clears
+returnClears c granted = record { asked = 0; holds = c .holds; owes = ifAny granted (c .owes) }
+
 abbrev pub returnDesk : Desk → ℕ → ℕ → Desk
-returnDesk d time granted = departed d time (d .out) 0 0 (d .holds) (ifAny granted (d .owes))
+returnDesk d time granted = departed d time (record { out = d .out; guest = 0; clears = returnClears (d .clears) granted })
 
 -- "TRAIN: holds falls by 1; .. granted above 0 becomes owes and clears S's asked"
+abbrev pub trainClears : Clears → ℕ → Clears
+trainClears c granted = record { asked = cond (ltb 0 granted) 0 (c .asked); holds = c .holds - 1; owes = ifAny granted (c .owes) }
+
 abbrev pub trainDesk : Desk → ℕ → ℕ → Desk
-trainDesk d time granted = departed d time (d .out) (d .guest) (cond (ltb 0 granted) 0 (d .asked)) (d .holds - 1) (ifAny granted (d .owes))
+trainDesk d time granted = departed d time (record { out = d .out; guest = d .guest; clears = trainClears (d .clears) granted })
 
 -- ---- receipts
 
--- "stops S's interval"; then sent, out, guest, asked, holds and owes
-abbrev pub received : Desk → ℕ → ℕ → Bool → ℕ → ℕ → ℕ → ℕ → Desk
-received d time sent = desk time (d .last) sent Stopped
+-- "stops S's interval"
+abbrev pub received : Desk → ℕ → ℕ → Standing → Desk
+received d time sent to =
+    record { clock = time; last = d .last; sent = sent; interval = Stopped; out = to .out; guest = to .guest; clears = to .clears }
 
 -- "S's own OPEN or THROUGH: sent falls by 1, papers cancelled, OPEN clears out." No other of S's own may enter.
 abbrev pub ownDesk : Desk → ℕ → Movement → Desk
-ownDesk d time (Open asked) = received d time (d .sent - 1) false (d .guest) (d .asked) (d .holds) (d .owes)
-ownDesk d time Through = received d time (d .sent - 1) (d .out) (d .guest) (d .asked) (d .holds) (d .owes)
+ownDesk d time (Open asked) = received d time (d .sent - 1) (record { out = false; guest = d .guest; clears = d .clears })
+ownDesk d time Through = received d time (d .sent - 1) (record { out = d .out; guest = d .guest; clears = d .clears })
 ownDesk d time (Return asked granted) = d
 ownDesk d time (Train asked granted) = d
 
--- "One from O: sent becomes 0, and OPEN makes guest and asked; RETURN clears out; TRAIN lowers owes by 1, not below 0; RETURN and TRAIN set holds to granted, and asked if above 0."
+-- an OPEN "makes .. asked"
+abbrev pub openedClears : Clears → ℕ → Clears
+openedClears c asked = record { asked = asked; holds = c .holds; owes = c .owes }
+
+-- "RETURN and TRAIN set holds to granted, and asked if above 0"
+abbrev pub broughtClears : Clears → ℕ → ℕ → ℕ → Clears
+broughtClears c asked granted owes = record { asked = ifAny asked (c .asked); holds = granted; owes = owes }
+
+-- "One from O: sent becomes 0, and OPEN makes guest and asked; RETURN clears out; TRAIN lowers owes by 1, not below 0"
 abbrev pub otherDesk : Desk → ℕ → ℕ → Movement → Desk
-otherDesk d time class (Open asked) = received d time 0 (d .out) class asked (d .holds) (d .owes)
-otherDesk d time class Through = received d time 0 (d .out) (d .guest) (d .asked) (d .holds) (d .owes)
-otherDesk d time class (Return asked granted) = received d time 0 false (d .guest) (ifAny asked (d .asked)) granted (d .owes)
-otherDesk d time class (Train asked granted) = received d time 0 (d .out) (d .guest) (ifAny asked (d .asked)) granted (d .owes - 1)
+otherDesk d time class (Open asked) = received d time 0 (record { out = d .out; guest = class; clears = openedClears (d .clears) asked })
+otherDesk d time class Through = received d time 0 (record { out = d .out; guest = d .guest; clears = d .clears })
+otherDesk d time class (Return asked granted) =
+    received d time 0 (record { out = false; guest = d .guest; clears = broughtClears (d .clears) asked granted (d .clears .owes) })
+otherDesk d time class (Train asked granted) =
+    received d time 0 (record { out = d .out; guest = d .guest; clears = broughtClears (d .clears) asked granted (d .clears .owes - 1) })
 
 abbrev pub arriveDesk : Station → Desk → ℕ → Vehicle → Desk
 arriveDesk x d time v = cond (eqb (v .sender) (numberAt x)) (ownDesk d time (v .movement)) (otherDesk d time (v .class) (v .movement))
+
+-- ---- each kind
+
+-- the forms and the speed on a driver's order
+pub record Order : Type 0 where
+  pub forms : ℕ
+  pub speed : Speed
+
+-- a departure: the desk after it, the vehicle that leaves, and its driver's order
+pub record Departing : Type 0 where
+  pub desk : Desk
+  pub vehicle : Vehicle
+  pub order : Order
+
+-- what a station's act comes to: a refusal, a departure, or a receipt with the desk after it
+pub data Plan : Type 0 where
+  Refuse : Refusal → Plan
+  Depart : Departing → Plan
+  Arrive : Desk → Plan
+
+-- an act of station x, whose desk is d and whose nearest vehicle is v, where no test refuses it
+abbrev pub effectOf : Act → Station → Desk → ℕ → Vehicle → Plan
+effectOf (acts.Open view class asked) x d time v = Depart (record {
+  desk = openDesk d time;
+  vehicle = vehicleFor x (nextForm d) (Open asked) class;
+  order = record { forms = openForms; speed = openSpeed view };
+})
+effectOf (acts.Through view) x d time v = Depart (record {
+  desk = throughDesk d time;
+  vehicle = vehicleFor x (nextForm d) Through 1;
+  order = record { forms = throughForms; speed = openSpeed view };
+})
+effectOf (acts.Return asked granted) x d time v = Depart (record {
+  desk = returnDesk d time granted;
+  vehicle = vehicleFor x (nextForm d) (Return asked granted) (d .guest);
+  order = record { forms = clearForms x true asked granted; speed = Booked };
+})
+effectOf (acts.Train view asked granted) x d time v = Depart (record {
+  desk = trainDesk d time granted;
+  vehicle = vehicleFor x (nextForm d) (Train asked granted) 0;
+  order = record { forms = clearForms x (eqb (d .sent) 0) asked granted; speed = trainSpeed (eqb (d .sent) 0) view };
+})
+effectOf (acts.Receive sender form) x d time v = Arrive (arriveDesk x d time v)

@@ -1,26 +1,28 @@
 -- Document 01, "Reasons by who causes them": what each kind is refused for, in rising order. Refusals 1 to 4 stand in Entries.
 use Prim.Native.Nat.{_+_, suc, ℕ}
+use Rattle.working.specs.Acts as acts
+use Rattle.working.specs.Acts.{Act}
 use Rattle.working.specs.Entries.{every}
+use Rattle.working.specs.Refusals.{Test}
 use Rattle.working.specs.Sections.{numberAt, unused}
 use Rattle.working.specs.WellMade.{isOpener}
 use Rattle.working.specs.declared.Desk.{Desk}
 use Rattle.working.specs.declared.Interval.the-variants.{Since, Stopped}
 use Rattle.working.specs.declared.Interval.{Interval}
 use Rattle.working.specs.declared.Refusal.the-variants.{AlreadyInForce, BeforeClock, FormsUsed, GrantNotAllowed, GuestHere, HoldsLineClear, IntervalRunning, MayNotEnter, MayNotMeet, NoGuest, NoLineClear, NotInForce, NotNearest, OpenerAway, OwesLineClear, TwelveSent, VehiclePresent}
-use Rattle.working.specs.declared.Refusal.{Refusal}
 use Rattle.working.specs.declared.Station.{Station}
 use Rattle.working.specs.declared.Vehicle.{Vehicle}
 use lib.Dec.{eqb, leb, ltb}
 use lib.ListN.{getD, length}
 use mathlib.Core.Bool.{Bool, _&&_, _||_, cond, false, not}
-use mathlib.Core.List.{List, [], _∷_}
+use mathlib.Core.List.{List, [], _++_, _∷_}
 
 -- ---- whoever declares
 
-abbrev pub beginTests : Bool → List (Bool × Refusal)
+abbrev pub beginTests : Bool → List Test
 beginTests force = (force, AlreadyInForce) ∷ []  -- 6
 
-abbrev pub resumeTests : Bool → ℕ → List (Bool × Refusal)
+abbrev pub resumeTests : Bool → ℕ → List Test
 resumeTests force present =
     (not force, NotInForce)  -- 7
     ∷ (ltb 0 present, VehiclePresent)  -- 8
@@ -33,42 +35,47 @@ abbrev pub isUnder : Interval → ℕ → Bool
 isUnder Stopped time = false
 isUnder (Since minute) time = ltb time (minute + 30)
 
--- departures
-abbrev pub departTests : Desk → ℕ → List (Bool × Refusal)
-departTests d time =
+-- every act of a station is put to these first
+abbrev pub stationTests : Bool → Desk → ℕ → List Test
+stationTests force d time =
+    (not force, NotInForce)  -- 7
+    ∷ (ltb time (d .clock), BeforeClock)  -- 9
+    ∷ []
+
+-- OPEN and THROUGH
+abbrev pub openTests : Desk → List Test
+openTests d =
+    (d .out, OpenerAway)  -- 10
+    ∷ (ltb 0 (d .clears .holds), HoldsLineClear)  -- 11
+    ∷ (ltb 0 (d .clears .owes), OwesLineClear)  -- 12
+    ∷ (ltb 0 (d .guest), GuestHere)  -- 13
+    ∷ []
+
+abbrev pub returnTests : Desk → ℕ → List Test
+returnTests d granted =
+    (ltb 0 (d .clears .holds), HoldsLineClear)  -- 11
+    ∷ (eqb (d .guest) 0, NoGuest)  -- 14
+    ∷ (ltb (d .clears .asked) granted, GrantNotAllowed)  -- 16
+    ∷ []
+
+-- 16: "granted above asked at S, or on a TRAIN that leaves holds above 0"
+abbrev pub trainTests : Desk → ℕ → List Test
+trainTests d granted =
+    (eqb (d .clears .holds) 0, NoLineClear)  -- 15
+    ∷ (ltb (d .clears .asked) granted || (ltb 0 granted && ltb 1 (d .clears .holds)), GrantNotAllowed)  -- 16
+    ∷ []
+
+-- every departure is put to these last
+abbrev pub lastTests : Desk → ℕ → List Test
+lastTests d time =
     (leb 12 (d .sent), TwelveSent)  -- 17
     ∷ (leb 9999 (d .last), FormsUsed)  -- 18
     ∷ (isUnder (d .interval) time, IntervalRunning)  -- 19
     ∷ []
 
--- OPEN and THROUGH
-abbrev pub openTests : Bool → Desk → ℕ → List (Bool × Refusal)
-openTests force d time =
-    (not force, NotInForce)  -- 7
-    ∷ (ltb time (d .clock), BeforeClock)  -- 9
-    ∷ (d .out, OpenerAway)  -- 10
-    ∷ (ltb 0 (d .holds), HoldsLineClear)  -- 11
-    ∷ (ltb 0 (d .owes), OwesLineClear)  -- 12
-    ∷ (ltb 0 (d .guest), GuestHere)  -- 13
-    ∷ departTests d time
-
-abbrev pub returnTests : Bool → Desk → ℕ → ℕ → List (Bool × Refusal)
-returnTests force d time granted =
-    (not force, NotInForce)  -- 7
-    ∷ (ltb time (d .clock), BeforeClock)  -- 9
-    ∷ (ltb 0 (d .holds), HoldsLineClear)  -- 11
-    ∷ (eqb (d .guest) 0, NoGuest)  -- 14
-    ∷ (ltb (d .asked) granted, GrantNotAllowed)  -- 16
-    ∷ departTests d time
-
--- 16: "granted above asked at S, or on a TRAIN that leaves holds above 0"
-abbrev pub trainTests : Bool → Desk → ℕ → ℕ → List (Bool × Refusal)
-trainTests force d time granted =
-    (not force, NotInForce)  -- 7
-    ∷ (ltb time (d .clock), BeforeClock)  -- 9
-    ∷ (eqb (d .holds) 0, NoLineClear)  -- 15
-    ∷ (ltb (d .asked) granted || (ltb 0 granted && ltb 1 (d .holds)), GrantNotAllowed)  -- 16
-    ∷ departTests d time
+-- a departure's tests: those of its kind between the two that all have
+abbrev pub departTests : Bool → Desk → ℕ → List Test → List Test
+departTests force d time own = stationTests force d time ++ (own ++ lastTests d time)
 
 -- ---- those on the line
 
@@ -83,13 +90,19 @@ mayEnter x v =
     (eqb (v .heading) (numberAt x))
 
 -- v is the vehicle nearest S
-abbrev pub receiveTests : Station → Bool → Desk → ℕ → Station → ℕ → Vehicle → List (Bool × Refusal)
-receiveTests x force d time sender form v =
-    (not force, NotInForce)  -- 7
-    ∷ (ltb time (d .clock), BeforeClock)  -- 9
-    ∷ (not (isNamed sender form v), NotNearest)  -- 20
+abbrev pub receiveTests : Station → Station → ℕ → Vehicle → List Test
+receiveTests x sender form v =
+    (not (isNamed sender form v), NotNearest)  -- 20
     ∷ (not (mayEnter x v), MayNotEnter)  -- 21
     ∷ []
+
+-- what an act of station x, whose desk is d and whose nearest vehicle is v, is put to
+abbrev pub testsOf : Act → Station → Bool → Desk → ℕ → Vehicle → List Test
+testsOf (acts.Open view class asked) x force d time v = departTests force d time (openTests d)
+testsOf (acts.Through view) x force d time v = departTests force d time (openTests d)
+testsOf (acts.Return asked granted) x force d time v = departTests force d time (returnTests d granted)
+testsOf (acts.Train view asked granted) x force d time v = departTests force d time (trainTests d granted)
+testsOf (acts.Receive sender form) x force d time v = stationTests force d time ++ receiveTests x sender form v
 
 -- the place of the vehicle named, or the length of the line where it is not present
 abbrev pub findOf : Station → ℕ → List Vehicle → ℕ
@@ -109,7 +122,7 @@ meetingTests l i =
 abbrev pub mayMeet : List Vehicle → ℕ → Bool
 mayMeet l i = every (meetingTests l i)
 
-abbrev pub meetTests : Bool → List Vehicle → ℕ → List (Bool × Refusal)
+abbrev pub meetTests : Bool → List Vehicle → ℕ → List Test
 meetTests force l i =
     (not force, NotInForce)  -- 7
     ∷ (not (mayMeet l i), MayNotMeet)  -- 22

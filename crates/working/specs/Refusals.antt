@@ -38,12 +38,16 @@ numberOf NotNearest = 20
 numberOf MayNotEnter = 21
 numberOf MayNotMeet = 22
 
+-- a test, and the refusal where it holds
+abbrev pub Test : Type 0
+Test = Bool × Refusal
+
 -- the refusal where its test holds, else what the later tests come to
 abbrev pub orElse : Bool → Refusal → Verdict → Verdict
 orElse true why later = Refused why
 orElse false why later = later
 
 -- the first test that holds says why; where none does, the entry is allowed
-abbrev pub firstOf : List (Bool × Refusal) → Verdict
+abbrev pub firstOf : List Test → Verdict
 firstOf [] = Allowed
 firstOf (t ∷ later) = orElse (t .0) (t .1) (firstOf later)

@@ -1,5 +1,6 @@
 -- Document 01, "The section": the two stations, the vehicles in order from A to B, the desks, and the fresh section.
 use Prim.Native.Nat.{_+_, _-_, suc, zero, ℕ}
+use Rattle.working.specs.declared.Clears.{Clears}
 use Rattle.working.specs.declared.Desk.{Desk}
 use Rattle.working.specs.declared.Interval.the-variants.{Stopped}
 use Rattle.working.specs.declared.Movement.the-variants.{Open}
@@ -69,8 +70,11 @@ countRefusal s = record { vehicles = s .vehicles; len = s .len; force = s .force
 
 -- ---- the fresh section
 
+abbrev pub noClears : Clears
+noClears = record { asked = 0; holds = 0; owes = 0 }
+
 abbrev pub freshDesk : Desk
-freshDesk = record { clock = 0; last = 0; sent = 0; interval = Stopped; out = false; guest = 0; asked = 0; holds = 0; owes = 0 }
+freshDesk = record { clock = 0; last = 0; sent = 0; interval = Stopped; out = false; guest = 0; clears = noClears }
 
 -- all but the count as fresh, in force or not
 abbrev pub emptied : Bool → ℕ → Section

@@ -1,30 +1,23 @@
 -- The step on a section and bytes: a station decides by its own desk and the vehicle nearest it, and acts on that desk and at its own end of the line.
 use Prim.Native.Nat.{suc, zero, ℕ}
-use Rattle.working.specs.Effects.{arriveDesk, clearForms, openDesk, openForms, openSpeed, returnDesk, throughDesk, throughForms, trainDesk, trainSpeed, vehicleFor}
-use Rattle.working.specs.Events.{Bad, Decoded, Says, decode}
-use Rattle.working.specs.Reasons.{beginTests, findOf, meetTests, openTests, receiveTests, resumeTests, returnTests, trainTests}
+use Rattle.working.specs.Acts.{Act}
+use Rattle.working.specs.Effects.{Arrive, Depart, Plan, Refuse, effectOf}
+use Rattle.working.specs.Events.{At, Bad, Begin, Decoded, Event, Meet, Resume, Says, decode}
+use Rattle.working.specs.Reasons.{beginTests, findOf, meetTests, resumeTests, testsOf}
 use Rattle.working.specs.Refusals.{firstOf}
 use Rattle.working.specs.Sections.{countRefusal, deskOf, emptied, insertAt, lineOf, nearestAt, numberAt, removeAt, withDesk, withLine}
 use Rattle.working.specs.WellMade.{wellMade}
-use Rattle.working.specs.declared.Act.the-variants.{Opens, Passes, Receives, Returns, Runs}
-use Rattle.working.specs.declared.Act.{Act}
 use Rattle.working.specs.declared.Answer.the-variants as answer
 use Rattle.working.specs.declared.Desk.{Desk}
-use Rattle.working.specs.declared.Event.the-variants.{At, Begin, Meet, Resume}
-use Rattle.working.specs.declared.Event.{Event}
-use Rattle.working.specs.declared.Movement.the-variants.{Open, Return, Through, Train}
-use Rattle.working.specs.declared.Plan.the-variants.{Arrive, Depart, Refuse}
-use Rattle.working.specs.declared.Plan.{Plan}
 use Rattle.working.specs.declared.Refusal.the-variants.{IllMade}
 use Rattle.working.specs.declared.Refusal.{Refusal}
 use Rattle.working.specs.declared.Section.{Section}
-use Rattle.working.specs.declared.Speed.the-variants.{Booked, NoSpeed}
+use Rattle.working.specs.declared.Speed.the-variants.{NoSpeed}
 use Rattle.working.specs.declared.Station.{Station}
 use Rattle.working.specs.declared.Stepped.{Stepped}
 use Rattle.working.specs.declared.Vehicle.{Vehicle}
 use Rattle.working.specs.declared.Verdict.the-variants.{Allowed, Refused}
 use Rattle.working.specs.declared.Verdict.{Verdict}
-use lib.Dec.{eqb}
 use mathlib.Core.Bool.{Bool, false, true}
 use mathlib.Core.List.{List, [], _∷_}
 
@@ -36,18 +29,7 @@ unlessRefused Allowed plan = plan
 
 -- what an act of station x, whose desk is d and whose nearest vehicle is v, comes to
 abbrev pub planOf : Act → Station → Bool → Desk → ℕ → Vehicle → Plan
-planOf (Opens view class asked) x force d time v =
-    unlessRefused (firstOf (openTests force d time)) (Depart (openDesk d time) (Open asked) class openForms (openSpeed view))
-planOf (Passes view) x force d time v =
-    unlessRefused (firstOf (openTests force d time)) (Depart (throughDesk d time) Through 1 throughForms (openSpeed view))
-planOf (Returns asked granted) x force d time v =
-    unlessRefused (firstOf (returnTests force d time granted))
-    (Depart (returnDesk d time granted) (Return asked granted) (d .guest) (clearForms x true asked granted) Booked)
-planOf (Runs view asked granted) x force d time v =
-    unlessRefused (firstOf (trainTests force d time granted))
-    (Depart (trainDesk d time granted) (Train asked granted) 0 (clearForms x (eqb (d .sent) 0) asked granted) (trainSpeed (eqb (d .sent) 0) view))
-planOf (Receives sender form) x force d time v =
-    unlessRefused (firstOf (receiveTests x force d time sender form v)) (Arrive (arriveDesk x d time v))
+planOf act x force d time v = unlessRefused (firstOf (testsOf act x force d time v)) (effectOf act x d time v)
 
 -- ---- and acts at its own end
 
@@ -61,9 +43,9 @@ accepted s = record { answer = answer.Accepted 0 0 NoSpeed; section = s }
 
 abbrev pub doneBy : Section → Station → Plan → Stepped
 doneBy s x (Refuse why) = refused s why
-doneBy s x (Depart d movement class forms speed) = record {
-  answer = answer.Accepted (d .last) forms speed;
-  section = withDesk (withLine s (insertAt x (vehicleFor x (d .last) movement class) (lineOf s))) x d;
+doneBy s x (Depart p) = record {
+  answer = answer.Accepted (p .vehicle .form) (p .order .forms) (p .order .speed);
+  section = withDesk (withLine s (insertAt x (p .vehicle) (lineOf s))) x (p .desk);
 }
 doneBy s x (Arrive d) = accepted (withDesk (withLine s (removeAt x (lineOf s))) x d)
 

@@ -107,9 +107,9 @@ deskTests n d l =
     ∷ leb (d .sent) 12
     ∷ leb (countFrom n l) (d .sent)  -- "each sent is at least that station's vehicles present"
     ∷ leb (d .guest) 5
-    ∷ leb (d .asked) 8
-    ∷ leb (d .holds) 8
-    ∷ leb (d .owes) 8
+    ∷ leb (d .clears .asked) 8
+    ∷ leb (d .clears .holds) 8
+    ∷ leb (d .clears .owes) 8
     ∷ notLater (d .interval) (d .clock)
     ∷ all (numbered n (d .last)) l
     ∷ []
@@ -124,7 +124,7 @@ isStopped Stopped = true
 isStopped (Since minute) = false
 
 abbrev pub isFreshDesk : Desk → Bool
-isFreshDesk d = every (eqb (d .clock) 0 ∷ eqb (d .last) 0 ∷ eqb (d .sent) 0 ∷ isStopped (d .interval) ∷ not (d .out) ∷ eqb (d .guest) 0 ∷ eqb (d .asked) 0 ∷ eqb (d .holds) 0 ∷ eqb (d .owes) 0 ∷ [])
+isFreshDesk d = every (eqb (d .clock) 0 ∷ eqb (d .last) 0 ∷ eqb (d .sent) 0 ∷ isStopped (d .interval) ∷ not (d .out) ∷ eqb (d .guest) 0 ∷ eqb (d .clears .asked) 0 ∷ eqb (d .clears .holds) 0 ∷ eqb (d .clears .owes) 0 ∷ [])
 
 -- "not in force, all but the count is as fresh"
 abbrev pub isIdle : Section → Bool

@@ -1,0 +1,14 @@
+-- `clears::if_any` meets its contract: the test is the definition's.
+-- Assumes nothing.
+use Rattle.rules.proofs.clears.if_any.Statement.{statement}
+use Rattle.rules.proofs.clears.if_any.Tie as tie
+use borrow.Author.Tests.{le-ltb, lt-ltb}
+
+returns : tie.Need-returns
+returns c = rw (lt-ltb _ _ (c .if1 .taken))
+
+returns-2 : tie.Need-returns-2
+returns-2 c = rw (le-ltb _ _ (c .if1 .left))
+
+pub if-any-spec : {M : Type 1} → statement M
+if-any-spec = tie.close (tie.spec returns returns-2)

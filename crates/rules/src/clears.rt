@@ -1,0 +1,63 @@
+// What a station has asked for, holds and owes after an act.
+ghost use Prim.Native.Nat.{_-_};
+ghost use Rattle.working.specs.Effects.{broughtClears, ifAny, openedClears, returnClears, trainClears};
+ghost use mathlib.Core.Path.{_≡_};
+use working::Clears;
+
+// One less, and not below 0.
+pub fn lowered(n: u8) -> u8
+    ensures { λ r. ⌜ r ≡ n - 1 ⌝ }
+{
+    if 0 < n { n - 1 } else { 0 }
+}
+
+// `n` where it is above 0, else what stood there.
+fn if_any(n: u8, before: u8) -> u8
+    ensures { λ r. ⌜ r ≡ ifAny n before ⌝ }
+{
+    if 0 < n { n } else { before }
+}
+
+// A RETURN leaves: the enquiry is answered, and line clears granted are owed.
+pub fn return_clears(c: Clears, granted: u8) -> Clears
+    ensures { λ r. ⌜ r ≡ returnClears c granted ⌝ }
+{
+    Clears {
+        asked: 0,
+        holds: c.holds,
+        owes: if_any(granted, c.owes),
+    }
+}
+
+// A TRAIN leaves on one of the line clears held; where it takes a reply along, the enquiry is answered and what it grants is owed.
+pub fn train_clears(c: Clears, granted: u8) -> Clears
+    ensures { λ r. ⌜ r ≡ trainClears c granted ⌝ }
+{
+    let mut after = c;
+    after.holds = lowered(c.holds);
+    if 0 < granted {
+        after.asked = 0;
+        after.owes = granted;
+    }
+    after
+}
+
+// The other station's OPEN brings an enquiry.
+pub fn opened_clears(c: Clears, asked: u8) -> Clears
+    ensures { λ r. ⌜ r ≡ openedClears c asked ⌝ }
+{
+    let mut after = c;
+    after.asked = asked;
+    after
+}
+
+// The other station's RETURN or TRAIN brings line clears, and an enquiry where it asks.
+pub fn brought_clears(c: Clears, asked: u8, granted: u8, owes: u8) -> Clears
+    ensures { λ r. ⌜ r ≡ broughtClears c asked granted owes ⌝ }
+{
+    Clears {
+        asked: if_any(asked, c.asked),
+        holds: granted,
+        owes,
+    }
+}

@@ -1,25 +1,39 @@
 -- A station's desk is put: all other words are as they were, so that they stand for the section with that desk; and a section's own words become those of
 -- the section with it.
 -- Assumes nothing.
-use Prim.Native.Nat.{_+_, _≤_, ℕ}
-use Rattle.words.proofs.Becoming.{as-written, first-words, written}
-use Rattle.words.specs.Words.{Becomes, DeskBecomes, deskFrom, deskIn, deskLength, deskWords, deskWordsIn, firstOf, sectionIn, startIn, wordCount, wordsFrom, wordsOf}
-use Rattle.working.specs.Sections.{deskOf, withDesk}
+use Prim.Native.Nat.{_%_, _+_, _-_, _<_, _≤_, suc, zero, ℕ}
+use Rattle.words.proofs.Written.{as-written, first-words, written}
+use Rattle.words.specs.Words.{Becomes, DeskBecomes, DeskPut, deskRead, deskIn, deskLength, deskWords, deskWordsIn, deskFrom, intervalIn, oneMore, sectionIn, startIn, wordCount, wordsFrom, wordsOf}
+use Rattle.working.specs.Sections.{countRefusal, deskOf, withDesk}
 use Rattle.working.specs.declared.Desk.{Desk}
+use Rattle.working.specs.declared.Interval.the-variants.{Since}
 use Rattle.working.specs.declared.Section.{Section}
 use Rattle.working.specs.declared.Station.the-variants.{A, B}
 use Rattle.working.specs.declared.Station.{Station}
 use lib.ListN.{drop, length, set, take, take-append-drop}
 use mathlib.Core.List.{List, _++_}
 use mathlib.Core.Path.{_∙_, _≡_, ap, ap₂, refl, sym}
+use native.Mathlib.Nat.{mod-eq-of-lt}
+use native.Mathlib.Numerals.{add-one}
 use native.Mathlib.Omega.{arith}
+
+-- ---- the interval
+
+pub interval-since : (word : ℕ) → (word ≡ 0 → ⊥) → Since ((word - 1) % 65536) ≡ intervalIn word
+interval-since zero some = absurd (some refl)
+interval-since (suc minute) some =
+    let same : suc minute - 1 ≡ minute = omega arith in
+    rw same
+
+pub interval-back : (minute : ℕ) → minute < 65536 → intervalIn (minute + 1) ≡ Since minute
+interval-back minute less = rw (add-one minute, mod-eq-of-lt less)
 
 -- ---- with other words at a station
 
 abbrev withWords : List ℕ → Station → List ℕ → List ℕ
-withWords w x t = take (firstOf x) w ++ (t ++ drop (firstOf x + deskLength) w)
+withWords w x t = take (deskFrom x) w ++ (t ++ drop (deskFrom x + deskLength) w)
 
-section-with : (w t : List ℕ) (x : Station) → sectionIn (withWords (written w) x (wordsFrom 0 deskLength t)) ≡ withDesk (sectionIn w) x (deskFrom t)
+section-with : (w t : List ℕ) (x : Station) → sectionIn (withWords (written w) x (wordsFrom 0 deskLength t)) ≡ withDesk (sectionIn w) x (deskRead t)
 unfolding sectionIn
 section-with w t A = refl
 section-with w t B = refl
@@ -43,27 +57,47 @@ unfolding sectionIn
 desk-at w A = refl
 desk-at w B = refl
 
-first-fits : (x : Station) → firstOf x + deskLength ≤ wordCount
-first-fits A = omega arith
-first-fits B = omega arith
+pub desk-fits : (x : Station) → deskFrom x + deskLength ≤ wordCount
+desk-fits A = omega arith
+desk-fits B = omega arith
 
 -- ---- and all others as they were
 
-pub desk-becomes : (x : Station) {w after : List ℕ} (put : List ℕ → List ℕ) (f : Desk → Desk) → length w ≡ wordCount → length after ≡ length w
-    → take (firstOf x) after ≡ take (firstOf x) w → deskWordsIn after x ≡ put (deskWordsIn w x)
-    → drop (firstOf x + deskLength) after ≡ drop (firstOf x + deskLength) w
-    → deskFrom (put (deskWordsIn w x)) ≡ f (deskIn w x) → ((d : Desk) → put (deskWords d) ≡ deskWords (f d)) → DeskBecomes w after x f
-desk-becomes x {w} {after} put f long same ahead desk behind read written-as =
+pub put-next : {w u after : List ℕ} {x : Station} {p q : List ℕ → List ℕ} → DeskPut w u x p → DeskPut u after x q → DeskPut w after x (λ t. q (p t))
+put-next {w} {u} {after} {x} {p} {q} one two = record {
+  long = one .long;
+  same = two .same ∙ one .same;
+  desk = two .desk ∙ ap q (one .desk);
+  ahead = two .ahead ∙ one .ahead;
+  behind = two .behind ∙ one .behind;
+}
+
+pub desk-becomes : {x : Station} {w after : List ℕ} {put : List ℕ → List ℕ} (f : Desk → Desk) → DeskPut w after x put
+    → deskRead (put (deskWordsIn w x)) ≡ f (deskIn w x) → ((d : Desk) → put (deskWords d) ≡ deskWords (f d)) → DeskBecomes w after x f
+desk-becomes {x} {w} {after} {put} f p read words =
     let s : Section = sectionIn w in
     let parts : after ≡ withWords w x (deskWordsIn after x) =
-    sym (take-append-drop (firstOf x) after)
-    ∙ ap₂ _++_ ahead (first-words (firstOf x) deskLength after (omega (arith, first-fits x)) ∙ ap (deskWordsIn after x ++_) behind) in
-    let shown = parts ∙ ap (λ u. withWords u x (deskWordsIn after x)) (as-written w long) in
+    sym (take-append-drop (deskFrom x) after)
+    ∙ ap₂ _++_ (p .ahead) (first-words (deskFrom x) deskLength after (omega (arith, desk-fits x, p .same, p .long)) ∙ ap (deskWordsIn after x ++_) (p .behind)) in
+    let shown = parts ∙ ap (λ u. withWords u x (deskWordsIn after x)) (as-written w (p .long)) in
     record {
-      section = ap sectionIn shown ∙ section-with w (deskWordsIn after x) x ∙ ap (withDesk s x) (ap deskFrom desk ∙ read ∙ ap f (sym (desk-at w x)));
+      section = ap sectionIn shown ∙ section-with w (deskWordsIn after x) x ∙ ap (withDesk s x) (ap deskRead (p .desk) ∙ read ∙ ap f (sym (desk-at w x)));
       start = ap startIn shown ∙ start-with w (deskWordsIn after x) x;
       own = λ few e.
           let nine : deskWordsIn after x ≡ deskWords (f (deskOf s x)) =
-          desk ∙ ap put (ap (λ u. deskWordsIn u x) e ∙ own-desk s (startIn w) x) ∙ written-as (deskOf s x) in
+          p .desk ∙ ap put (ap (λ u. deskWordsIn u x) e ∙ own-desk s (startIn w) x) ∙ words (deskOf s x) in
           parts ∙ ap₂ (λ u t. withWords u x t) e nine ∙ own-with s (startIn w) (f (deskOf s x)) x;
+    }
+
+-- ---- the count of refusals
+
+pub count-becomes : (w : List ℕ) {n : ℕ} → length w ≡ wordCount → n < 4294967296 → n ≡ oneMore (sectionIn w .refused)
+    → Becomes w (set w 2 n) (countRefusal (sectionIn w)) (startIn w)
+unfolding sectionIn wordsOf
+count-becomes w {n} long fits e =
+    let shown = ap (λ u. set u 2 n) (as-written w long) in
+    record {
+      section = ap sectionIn shown ∙ rw (mod-eq-of-lt fits, e);
+      start = ap startIn shown;
+      own = λ few h. ap (λ u. set u 2 n) h ∙ ap (λ k. set (wordsOf (sectionIn w) (startIn w)) 2 k) e;
     }

@@ -1,4 +1,9 @@
-pub mod Ring
-pub mod Slots
 pub mod Becoming
 pub mod Desks
+pub mod Ends
+pub mod Keeping
+pub mod Lines
+pub mod Packing
+pub mod Ring
+pub mod Slots
+pub mod Written

@@ -2,7 +2,7 @@
 -- and, where every other slot was unused, still nothing else: one law of each act serves both, with the number m of places that are known.
 -- Assumes nothing.
 use Prim.Native.Nat.{_%_, _+_, _-_, _<_, _≤_, min, suc, zero, ℕ}
-use Rattle.words.specs.Words.{nearestSlot, round, slots, startOn}
+use Rattle.words.specs.Words.{endSlot, round, slots, startOn}
 use Rattle.working.proofs.Line.{insert-length}
 use Rattle.working.proofs.Meeting.{turn-length, turn-set}
 use Rattle.working.specs.Sections.{insertAt, removeAt, unused}
@@ -62,7 +62,7 @@ remove-length A l = length-drop 1 l
 remove-length B l = length-take-le (length l - 1) l (omega arith)
 
 module _ {at after : ℕ → Vehicle} (start : ℕ) (l : List Vehicle) (less : start < slots) (fits : length l ≤ 24) (m m′ : ℕ) (whole : m′ ≤ slots) (stands : Stands at start l m) where
-  pub enters : (x : Station) (v : Vehicle) → Alters at after (nearestSlot x (startOn x start 31) (length l + 1)) v
+  pub enters : (x : Station) (v : Vehicle) → Alters at after (endSlot x (startOn x start 31) (length l)) v
       → m′ ≤ m + 1 → ((i : ℕ) → i < m′ → (i ≡ length l → ⊥) → i < m) → Stands after (startOn x start 31) (insertAt x v l) m′
   enters A v a up reach zero h = a .here _ (omega arith)
   enters A v a up reach (suc i) h =
@@ -73,7 +73,7 @@ module _ {at after : ℕ → Vehicle} (start : ℕ) (l : List Vehicle) (less : s
       by (yes e) = a .here _ (omega arith) ∙ sym (ap (λ k. getD (l ++ v ∷ []) k unused) e ∙ getD-append-seam l v [] unused)
       by (no ne) = a .elsewhere _ (λ e. ne (omega arith)) ∙ stands i (reach i h ne) ∙ sym (snoc-at l v i ne)
 
-  pub leaves : (x : Station) → Alters at after (nearestSlot x start (length l)) unused
+  pub leaves : (x : Station) → Alters at after (endSlot x start (length l - 1)) unused
       → ((i : ℕ) → i < m′ → i < 31 → i + 1 < m) → ((i : ℕ) → i < m′ → (i + 1 ≡ length l → ⊥) → i < m) → Stands after (startOn x start 1) (removeAt x l) m′
   leaves A a next reach i h = by (decLe 31 i)
     where
@@ -82,9 +82,9 @@ module _ {at after : ℕ → Vehicle} (start : ℕ) (l : List Vehicle) (less : s
       by (no inside) =
           a .elsewhere _ (λ e. omega arith) ∙ ap at (omega arith) ∙ stands (i + 1) (next i h (omega arith))
           ∙ sym (getD-drop 1 l i unused ∙ ap (λ k. getD l k unused) (omega arith))
-  leaves B a next reach i h = by (ℕ-discrete ((start + i) % slots) (nearestSlot B start (length l)))
+  leaves B a next reach i h = by (ℕ-discrete ((start + i) % slots) (endSlot B start (length l - 1)))
     where
-      by : Dec ((start + i) % slots ≡ nearestSlot B start (length l)) → after ((start + i) % slots) ≡ getD (removeAt B l) i unused
+      by : Dec ((start + i) % slots ≡ endSlot B start (length l - 1)) → after ((start + i) % slots) ≡ getD (removeAt B l) i unused
       by (yes e) = a .here _ e ∙ sym (List·getD-eq-default (removeAt B l) unused (omega (arith, length-take (length l - 1) l)))
       by (no ne) = let apart : i + 1 ≡ length l → ⊥ = λ e. ne (omega arith) in a .elsewhere _ ne ∙ stands i (reach i h apart) ∙ sym (init-at l i apart)
 
@@ -102,13 +102,13 @@ pub record Moves (start : ℕ) (l : List Vehicle) (slot : ℕ) (v : Vehicle) (st
   pub alone : length l′ ≤ 24 → {at after : ℕ → Vehicle} → Alters at after slot v → Stands at start l slots → Stands after start′ l′ slots
 
 module _ (start : ℕ) (l : List Vehicle) (less : start < slots) (fits : length l ≤ 24) (x : Station) where
-  pub enters-moves : (v : Vehicle) → Moves start l (nearestSlot x (startOn x start 31) (length l + 1)) v (startOn x start 31) (insertAt x v l)
+  pub enters-moves : (v : Vehicle) → Moves start l (endSlot x (startOn x start 31) (length l)) v (startOn x start 31) (insertAt x v l)
   enters-moves v = record {
     line = λ a st. enters start l less fits (length l) _ (omega arith) st x v a (omega (arith, insert-length x v l)) (λ i h ne. omega (arith, insert-length x v l));
     alone = λ few a st. enters start l less fits slots slots (omega arith) st x v a (omega arith) (λ i h ne. omega arith);
   }
 
-  pub leaves-moves : Moves start l (nearestSlot x start (length l)) unused (startOn x start 1) (removeAt x l)
+  pub leaves-moves : Moves start l (endSlot x start (length l - 1)) unused (startOn x start 1) (removeAt x l)
   leaves-moves = record {
     line = λ a st. leaves start l less fits (length l) _ (omega arith) st x a (λ i h ne. omega (arith, remove-length x l)) (λ i h ne. omega (arith, remove-length x l));
     alone = λ few a st. leaves start l less fits slots slots (omega arith) st x a (λ i h ne. omega arith) (λ i h ne. omega arith);

@@ -11,11 +11,12 @@
 --
 -- A slot's first word, from its low end: form number (two bytes), sender, heading, met (1 or 0), class (a byte each).
 -- Its second word: what the vehicle left on (0 OPEN, 1 THROUGH, 2 RETURN, 3 TRAIN), granted, asked (a byte each). Two zeros are an unused place.
-use Prim.Native.Nat.{_%_, _*_, _+_, _-_, _/_, _≤_, min, suc, zero, ℕ}
+use Prim.Native.Nat.{_%_, _*_, _+_, _-_, _/_, _<_, _≤_, min, suc, zero, ℕ}
 use Rattle.working.specs.Reasons.{findOf, mayMeet}
 use Rattle.working.specs.Sections.{deskOf, lineOf, padTo, unused, withDesk, withLine}
 use Rattle.working.specs.Steps.{metAt}
 use Rattle.working.specs.WellMade.{oneIf}
+use Rattle.working.specs.declared.Clears.{Clears}
 use Rattle.working.specs.declared.Desk.{Desk}
 use Rattle.working.specs.declared.Interval.the-variants.{Since, Stopped}
 use Rattle.working.specs.declared.Interval.{Interval}
@@ -37,9 +38,9 @@ abbrev pub deskLength : ℕ
 deskLength = 9
 
 -- where a station's words begin
-abbrev pub firstOf : Station → ℕ
-firstOf A = 4
-firstOf B = 4 + deskLength
+abbrev pub deskFrom : Station → ℕ
+deskFrom A = 4
+deskFrom B = 4 + deskLength
 
 abbrev pub slots : ℕ
 slots = 32
@@ -125,15 +126,19 @@ unfoldable pub slotWords : List Vehicle → List ℕ
 slotWords [] = []
 slotWords (v ∷ l) = firstWord v ∷ secondWord v ∷ slotWords l
 
--- the ring's start moved n slots on at A's end, and left at B's: one back is 31 on
+-- the ring's start moved n slots on at A's end, and left at B's (one back is 31 on); and the word that then holds it
 abbrev pub startOn : Station → ℕ → ℕ → ℕ
 startOn A start n = (start + n) % slots
 startOn B start n = start
 
--- the slot of the vehicle nearest a station, of n from the start on
-abbrev pub nearestSlot : Station → ℕ → ℕ → ℕ
-nearestSlot A start n = start
-nearestSlot B start n = (start + n + 31) % slots
+abbrev pub startWord : Station → ℕ → List ℕ → ℕ
+startWord A n w = (startIn w + n) % slots
+startWord B n w = getD w 3 0
+
+-- the slot at a station's end of a line from the start on, with so many others in the line
+abbrev pub endSlot : Station → ℕ → ℕ → ℕ
+endSlot A start others = start
+endSlot B start others = (start + others) % slots
 
 -- ---- a desk
 
@@ -145,17 +150,15 @@ abbrev pub intervalWord : Interval → ℕ
 intervalWord Stopped = 0
 intervalWord (Since minute) = minute + 1
 
-abbrev pub deskFrom : List ℕ → Desk
-deskFrom t = record {
+abbrev pub deskRead : List ℕ → Desk
+deskRead t = record {
   clock = getD t 0 0 % 65536;
   last = getD t 1 0 % 65536;
   sent = getD t 2 0 % 256;
   interval = intervalIn (getD t 3 0);
   out = eqb (getD t 4 0) 1;
   guest = getD t 5 0 % 256;
-  asked = getD t 6 0 % 256;
-  holds = getD t 7 0 % 256;
-  owes = getD t 8 0 % 256;
+  clears = record { asked = getD t 6 0 % 256; holds = getD t 7 0 % 256; owes = getD t 8 0 % 256 };
 }
 
 abbrev pub deskWords : Desk → List ℕ
@@ -166,17 +169,17 @@ deskWords d =
     ∷ intervalWord (d .interval)
     ∷ oneIf (d .out)
     ∷ d .guest
-    ∷ d .asked
-    ∷ d .holds
-    ∷ d .owes
+    ∷ d .clears .asked
+    ∷ d .clears .holds
+    ∷ d .clears .owes
     ∷ []
 
 -- the words of a station's desk, and the desk that they stand for
 abbrev pub deskWordsIn : List ℕ → Station → List ℕ
-deskWordsIn w x = wordsFrom (firstOf x) deskLength w
+deskWordsIn w x = wordsFrom (deskFrom x) deskLength w
 
 abbrev pub deskIn : List ℕ → Station → Desk
-deskIn w x = deskFrom (deskWordsIn w x)
+deskIn w x = deskRead (deskWordsIn w x)
 
 -- "a 32-bit count of refused entries that stops at its largest value"
 abbrev pub oneMore : ℕ → ℕ
@@ -202,6 +205,7 @@ pub record OwnWords (w : List ℕ) (s : Section) : Type 0 where
   pub section : sectionIn w ≡ s
   pub start : startIn w ≡ 0
   pub words : w ≡ wordsOf s 0
+  pub fits : s .len ≤ 24
 
 -- ---- what a function makes of the words that it is lent
 
@@ -211,26 +215,32 @@ pub record Becomes (before after : List ℕ) (s : Section) (slot : ℕ) : Type 0
   pub start : startIn after ≡ slot
   pub own : s .len ≤ 24 → before ≡ wordsOf (sectionIn before) (startIn before) → after ≡ wordsOf s slot
 
--- a word of a station's desk is replaced, and no other
-pub record Put (before after : List ℕ) (x : Station) (figure word : ℕ) : Type 0 where
+-- the words of a station's desk are altered, and no other
+pub record DeskPut (before after : List ℕ) (x : Station) (put : List ℕ → List ℕ) : Type 0 where
   pub long : length before ≡ wordCount
   pub same : length after ≡ length before
-  pub desk : deskWordsIn after x ≡ set (deskWordsIn before x) figure word
-  pub ahead : take (firstOf x) after ≡ take (firstOf x) before
-  pub behind : drop (firstOf x + deskLength) after ≡ drop (firstOf x + deskLength) before
+  pub desk : deskWordsIn after x ≡ put (deskWordsIn before x)
+  pub ahead : take (deskFrom x) after ≡ take (deskFrom x) before
+  pub behind : drop (deskFrom x + deskLength) after ≡ drop (deskFrom x + deskLength) before
 
 -- the line alone is altered
 abbrev pub LineBecomes : List ℕ → List ℕ → (List Vehicle → List Vehicle) → (ℕ → ℕ) → Type 0
 LineBecomes before after f start = Becomes before after (withLine (sectionIn before) (f (lineOf (sectionIn before)))) (start (startIn before))
 
--- a vehicle is put into a slot, n are then present, and the ring starts at a slot; the vehicle comes back from its words
-abbrev pub relined : List ℕ → ℕ → Vehicle → ℕ → ℕ → List ℕ
-relined w slot v n start = set (set (set (set w (ringAt + 2 * slot) (firstWord v)) (ringAt + (2 * slot + 1)) (secondWord v)) 0 n) 3 start
+-- a slot's two words are stored, and the vehicle comes back from its own
+abbrev pub inSlot : List ℕ → ℕ → ℕ → ℕ → List ℕ
+inSlot w slot first second = set (set w (ringAt + 2 * slot) first) (ringAt + (2 * slot + 1)) second
 
-pub record Relined (before after : List ℕ) (slot : ℕ) (v : Vehicle) (n start : ℕ) : Type 0 where
+pub record VehiclePut (before after : List ℕ) (slot : ℕ) (v : Vehicle) : Type 0 where
   pub long : length before ≡ wordCount
-  pub stored : after ≡ relined before slot v n start
+  pub stored : after ≡ inSlot before slot (firstWord v) (secondWord v)
   pub back : vehicleIn (firstWord v) (secondWord v) ≡ v
+
+-- the ring's start is moved, and a slot is the one at a station's end
+pub record StartMoved (before after : List ℕ) (x : Station) (n slot there : ℕ) : Type 0 where
+  pub stored : after ≡ set before 3 (startWord x n before)
+  pub at : slot ≡ there
+  pub inside : slot < slots
 
 -- MEET, where the pair may meet
 abbrev pub metIf : Bool → Section → Station → ℕ → Section
@@ -245,44 +255,27 @@ pub record Met (before after : List ℕ) (x sender : Station) (form : ℕ) (r : 
 abbrev pub DeskBecomes : List ℕ → List ℕ → Station → (Desk → Desk) → Type 0
 DeskBecomes before after x f = Becomes before after (withDesk (sectionIn before) x (f (deskOf (sectionIn before) x))) (startIn before)
 
--- the figures of a desk that every departure and receipt may alter, and the others
-abbrev pub withTurn : ℕ → ℕ → ℕ → Interval → Desk → Desk
-withTurn clock last sent interval d = record {
-  clock = clock;
-  last = last;
-  sent = sent;
-  interval = interval;
-  out = d .out;
-  guest = d .guest;
-  asked = d .asked;
-  holds = d .holds;
-  owes = d .owes;
-}
+-- a desk with the figures that an entry of its station alters, and with its others
+abbrev pub withEntered : ℕ → ℕ → ℕ → Interval → Desk → Desk
+withEntered clock last sent interval d =
+    record { clock = clock; last = last; sent = sent; interval = interval; out = d .out; guest = d .guest; clears = d .clears }
 
-abbrev pub withRest : Bool → ℕ → ℕ → ℕ → ℕ → Desk → Desk
-withRest out guest asked holds owes d = record {
-  clock = d .clock;
-  last = d .last;
-  sent = d .sent;
-  interval = d .interval;
-  out = out;
-  guest = guest;
-  asked = asked;
-  holds = holds;
-  owes = owes;
-}
+abbrev pub withOthers : Bool → ℕ → Clears → Desk → Desk
+withOthers out guest clears d =
+    record { clock = d .clock; last = d .last; sent = d .sent; interval = d .interval; out = out; guest = guest; clears = clears }
 
+-- a departure takes a form number and starts the interval; a receipt stops it
 abbrev pub withDeparture : ℕ → ℕ → ℕ → Desk → Desk
-withDeparture time form sent = withTurn time form sent (Since time)
+withDeparture time form sent = withEntered time form sent (Since time)
 
 abbrev pub withReceipt : ℕ → ℕ → Desk → Desk
-withReceipt time sent d = withTurn time (d .last) sent Stopped d
+withReceipt time sent d = withEntered time (d .last) sent Stopped d
 
 abbrev pub withOut : Bool → Desk → Desk
-withOut out d = withRest out (d .guest) (d .asked) (d .holds) (d .owes) d
+withOut out d = withOthers out (d .guest) (d .clears) d
 
 abbrev pub withGuest : ℕ → Desk → Desk
-withGuest guest d = withRest (d .out) guest (d .asked) (d .holds) (d .owes) d
+withGuest guest d = withOthers (d .out) guest (d .clears) d
 
-abbrev pub withClears : ℕ → ℕ → ℕ → Desk → Desk
-withClears asked holds owes d = withRest (d .out) (d .guest) asked holds owes d
+abbrev pub withClears : Clears → Desk → Desk
+withClears clears d = withOthers (d .out) (d .guest) clears d

@@ -1,13 +1,13 @@
 // The figures of a section but for the line, in lent words: the length of the line, in force, refused, the ring's start, and nine words for each desk.
 ghost use Prim.Native.Nat.{_%_, _<_, _≤_};
-ghost use Rattle.words.specs.Words.{Becomes, DeskBecomes, Put, deskWordsIn, firstOf, intervalIn, intervalWord, oneMore, sectionIn, startIn, withClears, withDeparture, withGuest, withOut, withReceipt, withTurn};
+ghost use Rattle.words.specs.Words.{Becomes, DeskBecomes, DeskPut, deskWordsIn, deskFrom, intervalIn, intervalWord, oneMore, sectionIn, startIn, withClears, withDeparture, withGuest, withOut, withReceipt, withEntered};
 ghost use Rattle.working.specs.Sections.{countRefusal, deskOf};
-ghost use lib.Dec.{ltb};
-ghost use lib.ListN.{getD};
+ghost use lib.ListN.{getD, set};
 ghost use mathlib.Core.Path.{_≡_};
 use crate::vehicles::BYTE;
 use crate::vehicles::TWO_BYTES;
 use crate::vehicles::word_if;
+use working::Clears;
 use working::Desk;
 use working::Interval;
 use working::Section;
@@ -59,8 +59,8 @@ pub type Words = [u64; WORDS];
 const COUNTS: u64 = Section::MOST_REFUSED as u64 + 1;
 
 // Where a station's words begin.
-fn first_of(at: Station) -> usize
-    ensures { λ r. ⌜ (r ≡ firstOf at) × (r ≤ 13) ⌝ }
+fn desk_from(at: Station) -> usize
+    ensures { λ r. ⌜ (r ≡ deskFrom at) × (r ≤ 13) ⌝ }
 {
     match at {
         Station::A => FIRST_DESK,
@@ -73,7 +73,7 @@ fn word_at(words: &Words, at: Station, figure: usize) -> u64
     requires { ⌜ figure < 9 ⌝ }
     ensures { λ r. ⌜ r ≡ getD (deskWordsIn (now (words .entry)) at) figure 0 ⌝ }
 {
-    words[first_of(at) + figure]
+    words[desk_from(at) + figure]
 }
 
 // A figure of one byte.
@@ -122,24 +122,26 @@ pub fn desk(words: &Words, at: Station) -> Desk
         interval: interval_in(word_at(words, at, INTERVAL)),
         out: word_at(words, at, OUT) == 1,
         guest: byte_at(words, at, GUEST),
-        asked: byte_at(words, at, ASKED),
-        holds: byte_at(words, at, HOLDS),
-        owes: byte_at(words, at, OWES),
+        clears: Clears {
+            asked: byte_at(words, at, ASKED),
+            holds: byte_at(words, at, HOLDS),
+            owes: byte_at(words, at, OWES),
+        },
     }
 }
 
 // A word of a desk is replaced. Seen as a slice, the array shows the proof how many its words are.
 fn put(words: &mut Words, at: Station, figure: usize, word: u64)
     requires { ⌜ figure < 9 ⌝ }
-    ensures { λ _. ⌜ Put (now (words .entry)) (now (words .exit)) at figure word ⌝ }
+    ensures { λ _. ⌜ DeskPut (now (words .entry)) (now (words .exit)) at (λ t. set t figure word) ⌝ }
 {
     let _ = &words[..];
-    words[first_of(at) + figure] = word;
+    words[desk_from(at) + figure] = word;
 }
 
 // The minute of the last entry, the last form number, the departures counted and the interval.
-fn put_turn(words: &mut Words, at: Station, clock: u16, last: u16, sent: u8, interval: Interval)
-    ensures { λ _. ⌜ DeskBecomes (now (words .entry)) (now (words .exit)) at (withTurn clock last sent interval) ⌝ }
+fn put_entered(words: &mut Words, at: Station, clock: u16, last: u16, sent: u8, interval: Interval)
+    ensures { λ _. ⌜ DeskBecomes (now (words .entry)) (now (words .exit)) at (withEntered clock last sent interval) ⌝ }
 {
     put(words, at, CLOCK, clock as u64);
     put(words, at, LAST, last as u64);
@@ -151,7 +153,7 @@ fn put_turn(words: &mut Words, at: Station, clock: u16, last: u16, sent: u8, int
 pub fn put_departure(words: &mut Words, at: Station, time: u16, form: u16, sent: u8)
     ensures { λ _. ⌜ DeskBecomes (now (words .entry)) (now (words .exit)) at (withDeparture time form sent) ⌝ }
 {
-    put_turn(words, at, time, form, sent, Interval::Since(time));
+    put_entered(words, at, time, form, sent, Interval::Since(time));
 }
 
 // What every receipt alters: the minute, the departures counted; and no interval is running.
@@ -178,12 +180,12 @@ pub fn put_guest(words: &mut Words, at: Station, guest: u8)
 }
 
 // Trains enquired for and unanswered, line clears held and owed.
-pub fn put_clears(words: &mut Words, at: Station, asked: u8, holds: u8, owes: u8)
-    ensures { λ _. ⌜ DeskBecomes (now (words .entry)) (now (words .exit)) at (withClears asked holds owes) ⌝ }
+pub fn put_clears(words: &mut Words, at: Station, c: Clears)
+    ensures { λ _. ⌜ DeskBecomes (now (words .entry)) (now (words .exit)) at (withClears c) ⌝ }
 {
-    put(words, at, ASKED, asked as u64);
-    put(words, at, HOLDS, holds as u64);
-    put(words, at, OWES, owes as u64);
+    put(words, at, ASKED, c.asked as u64);
+    put(words, at, HOLDS, c.holds as u64);
+    put(words, at, OWES, c.owes as u64);
 }
 
 // The whole desk.
@@ -191,10 +193,11 @@ pub(crate) fn put_desk(words: &mut Words, at: Station, d: Desk)
     ensures { λ _. ⌜ DeskBecomes (now (words .entry)) (now (words .exit)) at (λ _. d) ⌝ }
 {
     let interval = d.interval;
-    put_turn(words, at, d.clock, d.last, d.sent, interval);
+    let clears = d.clears;
+    put_entered(words, at, d.clock, d.last, d.sent, interval);
     put_out(words, at, d.out);
     put_guest(words, at, d.guest);
-    put_clears(words, at, d.asked, d.holds, d.owes);
+    put_clears(words, at, clears);
 }
 
 // One more, up to the largest value.
@@ -209,7 +212,7 @@ fn one_more(count: u32) -> u32
 }
 
 // Entries refused.
-pub(crate) fn refused(words: &Words) -> u32
+pub fn refused(words: &Words) -> u32
     ensures { λ r. ⌜ r ≡ sectionIn (now (words .entry)) .refused ⌝ }
 {
     (words[REFUSED] % COUNTS) as u32
@@ -231,9 +234,9 @@ pub fn in_force(words: &Words) -> bool
     words[FORCE] == 1
 }
 
-// Whether a vehicle is present.
-pub fn any_present(words: &Words) -> bool
-    ensures { λ r. ⌜ r ≡ ltb 0 (sectionIn (now (words .entry)) .len) ⌝ }
+// The length of the line.
+pub fn present(words: &Words) -> usize
+    ensures { λ r. ⌜ r ≡ sectionIn (now (words .entry)) .len ⌝ }
 {
-    0 < words[LEN]
+    words[LEN] as usize
 }

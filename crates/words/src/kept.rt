@@ -1,19 +1,19 @@
 // A section put into words, and read off them.
 ghost use Rattle.words.specs.Words.{OwnWords, lineIn, sectionIn};
 ghost use Rattle.working.specs.Sections.{emptied, fresh, lineOf, padTo, withLine};
+ghost use lib.ListN.{take};
 ghost use mathlib.Core.Path.{_≡_};
-use crate::figures::LEN;
 use crate::figures::Words;
 use crate::figures::desk;
 use crate::figures::in_force;
+use crate::figures::present;
 use crate::figures::put_desk;
 use crate::figures::refused;
+use crate::line::at_place;
 use crate::line::emptied_words;
 use crate::line::fitting;
 use crate::line::insert;
 use crate::line::present_in;
-use crate::line::slot_of;
-use crate::line::vehicle_at;
 use working::Section;
 use working::Station;
 use working::Vehicle;
@@ -25,13 +25,12 @@ pub fn fresh_words() -> Words
     emptied_words(false, 0)
 }
 
-// The words of a section but for its desks.
-fn line_words(s: Section) -> Words
-    ensures { λ r. ⌜ OwnWords r (withLine (emptied (s .force) (s .refused)) (lineOf s)) ⌝ }
+// The words of a section with the first `len` of its places, and both desks as fresh.
+fn line_words(force: bool, count: u32, places: [Vehicle; Section::PLACES], len: usize) -> Words
+    ensures { λ r. ⌜ OwnWords r (withLine (emptied force count) (take len places)) ⌝ }
 {
-    let places = s.vehicles;
-    let present = fitting(s.len);
-    let mut words = emptied_words(s.force, s.refused);
+    let present = fitting(len);
+    let mut words = emptied_words(force, count);
     let mut i = 0;
     while i < present {
         insert(&mut words, Station::B, places[i]);
@@ -44,9 +43,10 @@ fn line_words(s: Section) -> Words
 pub fn words_of(s: Section) -> Words
     ensures { λ r. ⌜ OwnWords r (withLine s (lineOf s)) ⌝ }
 {
+    let places = s.vehicles;
     let a = s.a;
     let b = s.b;
-    let mut words = line_words(s);
+    let mut words = line_words(s.force, s.refused, places, s.len);
     put_desk(&mut words, Station::A, a);
     put_desk(&mut words, Station::B, b);
     words
@@ -60,7 +60,7 @@ fn places_in(words: &Words) -> [Vehicle; Section::PLACES]
     let mut places = [Vehicle::unused(); Section::PLACES];
     let mut i = 0;
     while i < present {
-        places[i] = vehicle_at(words, slot_of(words, i));
+        places[i] = at_place(words, i);
         i += 1;
     }
     places
@@ -72,7 +72,7 @@ pub fn section_in(words: &Words) -> Section
 {
     Section {
         vehicles: places_in(words),
-        len: words[LEN] as usize,
+        len: present(words),
         force: in_force(words),
         refused: refused(words),
         a: desk(words, Station::A),

@@ -7,15 +7,16 @@ mod vehicles;
 
 pub use figures::WORDS;
 pub use figures::Words;
-pub use figures::any_present;
 pub use figures::count_refusal;
 pub use figures::desk;
 pub use figures::in_force;
+pub use figures::present;
 pub use figures::put_clears;
 pub use figures::put_departure;
 pub use figures::put_guest;
 pub use figures::put_out;
 pub use figures::put_receipt;
+pub use figures::refused;
 pub use kept::fresh_words;
 pub use kept::section_in;
 pub use kept::words_of;

@@ -1,11 +1,11 @@
 // The vehicles present, in a ring of slots: one enters or leaves at a station's end, and two meet. No other vehicle is moved. What lies in a slot outside the line
 // stands for nothing; a slot is made unused when its vehicle leaves, so that a section has words of its own.
 ghost use Prim.Native.Nat.{_%_, _+_, _-_, _<_, _≤_, min};
-ghost use Rattle.words.specs.Words.{Becomes, LineBecomes, Met, OwnWords, Relined, lineIn, nearestSlot, presentIn, ringIn, sectionIn, slots, startIn, startOn, vehicleAt};
+ghost use Rattle.words.specs.Words.{Becomes, LineBecomes, Met, OwnWords, StartMoved, VehiclePut, endSlot, lineIn, presentIn, ringIn, sectionIn, slots, startIn, startOn, vehicleAt};
 ghost use Rattle.working.specs.Reasons.{findOf, mayMeet};
-ghost use Rattle.working.specs.Sections.{emptied, insertAt, lineOf, nearestAt, removeAt};
+ghost use Rattle.working.specs.Sections.{emptied, insertAt, lineOf, nearestAt, removeAt, unused};
 ghost use Rattle.working.specs.Steps.{turnAt, turned};
-ghost use mathlib.Core.Bool.{cond};
+ghost use lib.ListN.{getD};
 ghost use mathlib.Core.Path.{_≡_};
 use crate::figures::FORCE;
 use crate::figures::LEN;
@@ -60,14 +60,22 @@ pub(crate) fn present_in(words: &Words) -> usize
 }
 
 // The slot of the vehicle nearest A.
-pub(crate) fn start_in(words: &Words) -> usize
+fn start_in(words: &Words) -> usize
     ensures { λ r. ⌜ r ≡ startIn (now (words .entry)) ⌝ }
 {
     (words[START] % SLOTS as u64) as usize
 }
 
+// The slot of place `i` of a line from a start on.
+fn slot_of(start: usize, i: usize) -> usize
+    requires { ⌜ (start < slots) × (i < slots) ⌝ }
+    ensures { λ r. ⌜ (r ≡ (start + i) % slots) × (r < slots) ⌝ }
+{
+    (start + i) % SLOTS
+}
+
 // The vehicle in a slot.
-pub(crate) fn vehicle_at(words: &Words, slot: usize) -> Vehicle
+fn vehicle_at(words: &Words, slot: usize) -> Vehicle
     requires { ⌜ slot < slots ⌝ }
     ensures { λ r. ⌜ r ≡ vehicleAt (ringIn (now (words .entry))) slot ⌝ }
 {
@@ -75,39 +83,40 @@ pub(crate) fn vehicle_at(words: &Words, slot: usize) -> Vehicle
     vehicle_in(words[RING + first], words[RING + (first + 1)])
 }
 
-// A vehicle is put into a slot, and so many are then present, from a start on. Seen as a slice, the array shows the proof how many its words are.
-fn reline(words: &mut Words, slot: usize, v: Vehicle, present: usize, start: usize)
+// The vehicle at place `i` of the line.
+pub(crate) fn at_place(words: &Words, i: usize) -> Vehicle
+    requires { ⌜ i < presentIn (now words) ⌝ }
+    ensures { λ r. ⌜ r ≡ getD (lineIn (now (words .entry))) i unused ⌝ }
+{
+    vehicle_at(words, slot_of(start_in(words), i))
+}
+
+// A vehicle is put into a slot. Seen as a slice, the array shows the proof how many its words are.
+fn put_vehicle(words: &mut Words, slot: usize, v: Vehicle)
     requires { ⌜ slot < slots ⌝ }
-    ensures { λ _. ⌜ Relined (now (words .entry)) (now (words .exit)) slot v present start ⌝ }
+    ensures { λ _. ⌜ VehiclePut (now (words .entry)) (now (words .exit)) slot v ⌝ }
 {
     let _ = &words[..];
     let movement = v.movement;
     let first = SLOT_LENGTH * slot;
     words[RING + first] = first_word(v);
     words[RING + (first + 1)] = second_word(movement);
-    words[LEN] = present as u64;
-    words[START] = start as u64;
 }
 
-// A slot so many on from the ring's start at A's end, and the same at B's.
-fn start_on(at: Station, start: usize, n: usize) -> usize
-    requires { ⌜ (start < slots) × (n < slots) ⌝ }
-    ensures { λ r. ⌜ (r ≡ startOn at start n) × (r < slots) ⌝ }
+// The slot at a station's end for a vehicle that enters beside `others`: at A's end the ring's start moves there.
+fn entering_slot(words: &mut Words, at: Station, others: usize) -> usize
+    requires { ⌜ others < slots ⌝ }
+    ensures { λ r. ⌜ StartMoved (now (words .entry)) (now (words .exit)) at 31 r (endSlot at (startOn at (startIn (now (words .entry))) 31) others) ⌝ }
 {
+    let _ = &words[..];
+    let start = start_in(words);
     match at {
-        Station::A => (start + n) % SLOTS,
-        Station::B => start,
-    }
-}
-
-// The slot of the vehicle nearest a station, of so many from a start on.
-fn nearest_slot(at: Station, start: usize, present: usize) -> usize
-    requires { ⌜ (start < slots) × (present < slots) ⌝ }
-    ensures { λ r. ⌜ (r ≡ nearestSlot at start present) × (r < slots) ⌝ }
-{
-    match at {
-        Station::A => start,
-        Station::B => (start + present + ONE_BACK) % SLOTS,
+        Station::A => {
+            let slot = slot_of(start, ONE_BACK);
+            words[START] = slot as u64;
+            slot
+        }
+        Station::B => slot_of(start, others),
     }
 }
 
@@ -115,9 +124,26 @@ fn nearest_slot(at: Station, start: usize, present: usize) -> usize
 pub fn insert(words: &mut Words, at: Station, v: Vehicle)
     ensures { λ _. ⌜ LineBecomes (now (words .entry)) (now (words .exit)) (insertAt at v) (λ start. startOn at start 31) ⌝ }
 {
-    let present = present_in(words) + 1;
-    let start = start_on(at, start_in(words), ONE_BACK);
-    reline(words, nearest_slot(at, start, present), v, present, start);
+    let present = present_in(words);
+    words[LEN] = (present + 1) as u64;
+    let slot = entering_slot(words, at, present);
+    put_vehicle(words, slot, v);
+}
+
+// The slot of the vehicle that leaves at a station's end: at A's end the ring's start moves to the next one.
+fn leaving_slot(words: &mut Words, at: Station, others: usize) -> usize
+    requires { ⌜ others < slots ⌝ }
+    ensures { λ r. ⌜ StartMoved (now (words .entry)) (now (words .exit)) at 1 r (endSlot at (startIn (now (words .entry))) others) ⌝ }
+{
+    let _ = &words[..];
+    let start = start_in(words);
+    match at {
+        Station::A => {
+            words[START] = slot_of(start, 1) as u64;
+            start
+        }
+        Station::B => slot_of(start, others),
+    }
 }
 
 // One less, and not below 0.
@@ -131,15 +157,10 @@ fn fewer(n: usize) -> usize
 pub fn remove(words: &mut Words, at: Station)
     ensures { λ _. ⌜ LineBecomes (now (words .entry)) (now (words .exit)) (removeAt at) (λ start. startOn at start 1) ⌝ }
 {
-    let present = present_in(words);
-    let start = start_in(words);
-    reline(
-        words,
-        nearest_slot(at, start, present),
-        Vehicle::unused(),
-        fewer(present),
-        start_on(at, start, 1),
-    );
+    let others = fewer(present_in(words));
+    words[LEN] = others as u64;
+    let slot = leaving_slot(words, at, others);
+    put_vehicle(words, slot, Vehicle::unused());
 }
 
 // The vehicle nearest a station, or the unused place where there is none.
@@ -150,40 +171,25 @@ pub fn nearest(words: &Words, at: Station) -> Vehicle
     if present == 0 {
         return Vehicle::unused();
     }
-    vehicle_at(words, nearest_slot(at, start_in(words), present))
-}
-
-// The slot of place `i` of the line.
-pub(crate) fn slot_of(words: &Words, i: usize) -> usize
-    requires { ⌜ i < slots ⌝ }
-    ensures { λ r. ⌜ r ≡ (startIn (now (words .entry)) + i) % slots ⌝ }
-{
-    (start_in(words) + i) % SLOTS
-}
-
-// `i` where `found`, else `later`: the place that a search from B's end has found so far.
-fn place_if(found: bool, i: usize, later: usize) -> usize
-    ensures { λ r. ⌜ r ≡ cond found i later ⌝ }
-{
-    if found { i } else { later }
+    match at {
+        Station::A => at_place(words, 0),
+        Station::B => at_place(words, present - 1),
+    }
 }
 
 // The place of the vehicle named, nearest A first, or the length of the line where it is not present.
 fn find(words: &Words, sender: Station, form: u16) -> usize
-    ensures { λ r. ⌜ r ≡ findOf sender form (lineIn (now (words .entry))) ⌝ }
+    ensures { λ r. ⌜ (r ≡ findOf sender form (lineIn (now (words .entry)))) × (r ≤ 24) ⌝ }
 {
     let present = present_in(words);
-    let mut found = present;
-    let mut i = present;
-    while 0 < i {
-        i -= 1;
-        found = place_if(
-            is_named(sender, form, vehicle_at(words, slot_of(words, i))),
-            i,
-            found,
-        );
+    let mut i = 0;
+    while i < present {
+        if is_named(sender, form, at_place(words, i)) {
+            return i;
+        }
+        i += 1;
     }
-    found
+    present
 }
 
 // Whether the vehicle at place `i` and its neighbour towards B may meet: both present, OPEN or THROUGH, and heading towards one another.
@@ -194,15 +200,15 @@ fn may_meet(words: &Words, i: usize) -> bool
     if present_in(words) <= i + 1 {
         return false;
     }
-    let v = vehicle_at(words, slot_of(words, i));
-    let w = vehicle_at(words, slot_of(words, i + 1));
+    let v = at_place(words, i);
+    let w = at_place(words, i + 1);
     let left_on = v.movement;
     let other_left_on = w.movement;
     (v.heading == 2) & (w.heading == 1) & is_opener(left_on) & is_opener(other_left_on)
 }
 
 // A vehicle that has met another, now heading to a station.
-fn turned(v: Vehicle, to: Station) -> Vehicle
+fn met(v: Vehicle, to: Station) -> Vehicle
     ensures { λ r. ⌜ r ≡ turned to v ⌝ }
 {
     let mut after = v;
@@ -211,16 +217,17 @@ fn turned(v: Vehicle, to: Station) -> Vehicle
     after
 }
 
-// The vehicle at place `i` is turned.
-fn turn(words: &mut Words, i: usize, to: Station)
+// The vehicle at place `i` has met another, and heads to a station: that alters its first word.
+fn put_met(words: &mut Words, i: usize, to: Station)
     requires { ⌜ i < presentIn (now words) ⌝ }
     ensures { λ _. ⌜ LineBecomes (now (words .entry)) (now (words .exit)) (turnAt to i) (λ start. start) ⌝ }
 {
+    let _ = &words[..];
     let present = present_in(words);
-    let start = start_in(words);
-    let slot = slot_of(words, i);
-    let v = turned(vehicle_at(words, slot), to);
-    reline(words, slot, v, present, start);
+    let slot = slot_of(start_in(words), i);
+    let v = met(vehicle_at(words, slot), to);
+    words[LEN] = present as u64;
+    words[RING + SLOT_LENGTH * slot] = first_word(v);
 }
 
 // The vehicle named and its neighbour towards B meet and then both head to a station, if they may; says whether they did.
@@ -230,8 +237,8 @@ pub fn meet(words: &mut Words, to: Station, sender: Station, form: u16) -> bool
     let i = find(words, sender, form);
     let may = may_meet(words, i);
     if may {
-        turn(words, i, to);
-        turn(words, i + 1, to);
+        put_met(words, i, to);
+        put_met(words, i + 1, to);
     }
     may
 }

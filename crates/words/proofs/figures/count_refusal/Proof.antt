@@ -1,30 +1,32 @@
-use borrow.Author.Needs.{needs}
+-- `figures::count_refusal` meets its contract: the word stored is the only one that is altered, and it is in range.
+-- Assumes nothing.
+use Rattle.words.proofs.Desks.{count-becomes}
 use Rattle.words.proofs.figures.count_refusal.Statement.{statement}
 use Rattle.words.proofs.figures.count_refusal.Tie as tie
-use Rattle.words.proofs.figures.count_refusal.Reads as reads
-use Rattle.words.proofs.figures.count_refusal.Lts as lts
-use Rattle.words.proofs.figures.one_more.Reads as one-more-reads
-use Rattle.words.proofs.figures.refused.Reads as refused-reads
+use Rattle.words.specs.Words.{oneMore, wordCount}
+use borrow.Author.Needs.{needs}
+use lib.ListN.{length}
+use mathlib.Core.Path.{_∙_, _≡_, ap}
+use native.Mathlib.Omega.{arith}
 
--- src/figures.rt:223:26
 refused-requires : tie.Need-refused-requires
 refused-requires c κs = search needs
 
--- src/figures.rt:223:9
 one-more-requires : tie.Need-one-more-requires
 one-more-requires c κs = search needs
 
--- src/figures.rt:224:22
 cast-words : tie.Need-cast-words
 cast-words c = search needs
 
--- src/figures.rt:224:5
 element-write-words : tie.Need-element-write-words
 element-write-words c = search needs
 
--- src/figures.rt:219:1
 returns : tie.Need-returns
-returns c = ?
+returns c =
+    let refused = c .before in
+    let words = refused .before .before .before .before .args .words .now in
+    let long : length words ≡ wordCount = search needs in
+    count-becomes words long (omega arith) (c .one-more .ensures ∙ ap oneMore (refused .refused .ensures))
 
 pub count-refusal-spec : {M : Type 1} → statement M
 count-refusal-spec =

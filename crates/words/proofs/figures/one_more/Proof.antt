@@ -1,20 +1,18 @@
-use borrow.Author.Needs.{needs}
+-- `figures::one_more` meets its contract: each arm is the definition at the test that led there.
+-- Assumes nothing.
 use Rattle.words.proofs.figures.one_more.Statement.{statement}
 use Rattle.words.proofs.figures.one_more.Tie as tie
-use Rattle.words.proofs.figures.one_more.Reads as reads
-use Rattle.words.proofs.figures.one_more.Lts as lts
+use borrow.Author.Needs.{needs}
+use borrow.Author.Tests.{le-ltb, lt-ltb}
 
--- src/figures.rt:205:9
 add-result : tie.Need-add-result
 add-result c = search needs
 
--- src/figures.rt:201:1
 returns : tie.Need-returns
-returns c = ?
+returns c = rw (lt-ltb _ _ (c .if1 .taken))
 
--- src/figures.rt:201:1
 returns-2 : tie.Need-returns-2
-returns-2 c = ?
+returns-2 c = rw (le-ltb _ _ (c .if1 .left))
 
 pub one-more-spec : {M : Type 1} → statement M
 one-more-spec = tie.close (tie.spec add-result returns returns-2)

@@ -1,29 +1,42 @@
-use borrow.Author.Needs.{needs}
+-- `figures::put` meets its contract: a word stored among those of a desk alters no other.
+-- Assumes nothing.
+use Prim.Native.Nat.{_+_}
+use Rattle.words.proofs.Desks.{desk-fits}
+use Rattle.words.proofs.Written.{words-set}
 use Rattle.words.proofs.figures.put.Statement.{statement}
 use Rattle.words.proofs.figures.put.Tie as tie
-use Rattle.words.proofs.figures.put.Reads as reads
-use Rattle.words.proofs.figures.put.Lts as lts
-use Rattle.words.proofs.figures.first_of.Reads as first-of-reads
+use Rattle.words.specs.Words.{deskFrom, deskLength, wordCount}
+use borrow.Author.Needs.{needs}
+use lib.ListN.{length, length-set}
+use lib.Seq.{drop-set-lt, take-set-le}
+use mathlib.Core.Path.{_≡_}
+use native.Mathlib.Omega.{arith}
 
--- src/figures.rt:137:11
-first-of-requires : tie.Need-first-of-requires
-first-of-requires c κs = search needs
+desk-from-requires : tie.Need-desk-from-requires
+desk-from-requires c κs = search needs
 
--- src/figures.rt:137:11
 add-words : tie.Need-add-words
 add-words c = search needs
 
--- src/figures.rt:137:5
 mul-words : tie.Need-mul-words
 mul-words c = search needs
 
--- src/figures.rt:137:5
 element-write-words : tie.Need-element-write-words
 element-write-words c = search needs
 
--- src/figures.rt:132:1
 returns : tie.Need-returns
-returns c = ?
+returns c =
+    let a = c .before .before .before .args in
+    let first = deskFrom (a .at) in
+    let w = a .words .now in
+    let long : length w ≡ wordCount = search needs in
+    rw (c .desk-from .ensures .0) (record {
+      long = long;
+      same = length-set w (first + a .figure) (a .word);
+      desk = words-set first deskLength w (a .figure) (a .word) (omega (arith, desk-fits (a .at))) (omega arith);
+      ahead = take-set-le first w (first + a .figure) (a .word) (omega arith);
+      behind = drop-set-lt (first + deskLength) w (first + a .figure) (a .word) (omega arith);
+    })
 
 pub put-spec : {M : Type 1} → statement M
-put-spec = tie.close (tie.spec first-of-requires add-words mul-words element-write-words returns)
+put-spec = tie.close (tie.spec desk-from-requires add-words mul-words element-write-words returns)

@@ -1,25 +1,44 @@
-use borrow.Author.Needs.{needs}
+-- `figures::put_clears` meets its contract: three words of the desk, each in range of its type.
+-- Assumes nothing.
+use Prim.Native.Nat.{_%_}
+use Rattle.words.proofs.Desks.{desk-becomes, put-next}
 use Rattle.words.proofs.figures.put_clears.Statement.{statement}
 use Rattle.words.proofs.figures.put_clears.Tie as tie
-use Rattle.words.proofs.figures.put_clears.Reads as reads
-use Rattle.words.proofs.figures.put_clears.Lts as lts
-use Rattle.words.proofs.figures.put.Reads as put-reads
+use Rattle.words.specs.Words.{withClears}
+use borrow.Author.Needs.{needs}
+use mathlib.Core.Path.{_≡_, refl}
+use native.Mathlib.Nat.{mod-eq-of-lt}
+use native.Mathlib.Omega.{arith}
 
--- src/figures.rt:184:5
+cast-put : tie.Need-cast-put
+cast-put c = search needs
+
 put-requires : tie.Need-put-requires
 put-requires c κs = search needs
 
--- src/figures.rt:185:5
+cast-put-2 : tie.Need-cast-put-2
+cast-put-2 c = search needs
+
 put-requires-2 : tie.Need-put-requires-2
 put-requires-2 c κs = search needs
 
--- src/figures.rt:186:5
+cast-put-3 : tie.Need-cast-put-3
+cast-put-3 c = search needs
+
 put-requires-3 : tie.Need-put-requires-3
 put-requires-3 c κs = search needs
 
--- src/figures.rt:181:1
 returns : tie.Need-returns
-returns c = ?
+returns c =
+    let second = c .before .before .before in
+    let first = second .before .before .before in
+    let clears = first .before .before .before .args .c in
+    let asked : clears .asked % 256 ≡ clears .asked = mod-eq-of-lt (omega arith) in
+    let holds : clears .holds % 256 ≡ clears .holds = mod-eq-of-lt (omega arith) in
+    let owes : clears .owes % 256 ≡ clears .owes = mod-eq-of-lt (omega arith) in
+    desk-becomes (withClears clears) (put-next (put-next (first .put .ensures) (second .put2 .ensures)) (c .put3 .ensures)) (rw (asked, holds, owes)) (λ d. refl)
 
 pub put-clears-spec : {M : Type 1} → statement M
-put-clears-spec = tie.close (tie.spec put-requires put-requires-2 put-requires-3 returns)
+put-clears-spec =
+    tie.close
+    (tie.spec cast-put put-requires cast-put-2 put-requires-2 cast-put-3 put-requires-3 returns)

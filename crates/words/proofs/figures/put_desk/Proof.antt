@@ -1,34 +1,38 @@
-use borrow.Author.Needs.{needs}
+-- `figures::put_desk` meets its contract: what an entry alters, and the others, are the whole desk.
+-- Assumes nothing.
+use Rattle.words.proofs.Becoming.{desk-then}
 use Rattle.words.proofs.figures.put_desk.Statement.{statement}
 use Rattle.words.proofs.figures.put_desk.Tie as tie
-use Rattle.words.proofs.figures.put_desk.Reads as reads
-use Rattle.words.proofs.figures.put_desk.Lts as lts
-use Rattle.words.proofs.figures.put_clears.Reads as put-clears-reads
-use Rattle.words.proofs.figures.put_guest.Reads as put-guest-reads
-use Rattle.words.proofs.figures.put_out.Reads as put-out-reads
-use Rattle.words.proofs.figures.put_turn.Reads as put-turn-reads
+use Rattle.words.specs.Words.{withClears, withEntered, withGuest, withOut}
+use Rattle.working.specs.declared.Desk.{Desk}
+use borrow.Author.Needs.{needs}
 
--- src/figures.rt:194:5
-put-turn-requires : tie.Need-put-turn-requires
-put-turn-requires c κs = search needs
+put-entered-requires : tie.Need-put-entered-requires
+put-entered-requires c κs = search needs
 
--- src/figures.rt:195:5
 put-out-requires : tie.Need-put-out-requires
 put-out-requires c κs = search needs
 
--- src/figures.rt:196:5
 put-guest-requires : tie.Need-put-guest-requires
 put-guest-requires c κs = search needs
 
--- src/figures.rt:197:5
 put-clears-requires : tie.Need-put-clears-requires
 put-clears-requires c κs = search needs
 
--- src/figures.rt:190:1
 returns : tie.Need-returns
-returns c = ?
+returns c =
+    let guest = c .before .before in
+    let out = guest .before .before in
+    let entered = out .before .before in
+    let a = entered .before .before .before .args in
+    let d = a .d in
+    let first = withEntered (d .clock) (d .last) (d .sent) (d .interval) in
+    let second : Desk → Desk = λ z. withOut (d .out) (first z) in
+    let third : Desk → Desk = λ z. withGuest (d .guest) (second z) in
+    desk-then (a .at) third (withClears (d .clears)) (desk-then (a .at) second (withGuest (d .guest))
+    (desk-then (a .at) first (withOut (d .out)) (entered .put-entered .ensures) (out .put-out .ensures)) (guest .put-guest .ensures)) (c .put-clears .ensures)
 
 pub put-desk-spec : {M : Type 1} → statement M
 put-desk-spec =
     tie.close
-    (tie.spec put-turn-requires put-out-requires put-guest-requires put-clears-requires returns)
+    (tie.spec put-entered-requires put-out-requires put-guest-requires put-clears-requires returns)

@@ -1,17 +1,23 @@
-use borrow.Author.Needs.{needs}
+-- `figures::put_guest` meets its contract: one word of the desk, in range of its type.
+-- Assumes nothing.
+use Prim.Native.Nat.{_%_}
+use Rattle.words.proofs.Desks.{desk-becomes}
 use Rattle.words.proofs.figures.put_guest.Statement.{statement}
 use Rattle.words.proofs.figures.put_guest.Tie as tie
-use Rattle.words.proofs.figures.put_guest.Reads as reads
-use Rattle.words.proofs.figures.put_guest.Lts as lts
-use Rattle.words.proofs.figures.put.Reads as put-reads
+use Rattle.words.specs.Words.{withGuest}
+use borrow.Author.Needs.{needs}
+use mathlib.Core.Path.{_≡_, refl}
+use native.Mathlib.Nat.{mod-eq-of-lt}
+use native.Mathlib.Omega.{arith}
 
--- src/figures.rt:177:5
 put-requires : tie.Need-put-requires
 put-requires c κs = search needs
 
--- src/figures.rt:174:1
 returns : tie.Need-returns
-returns c = ?
+returns c =
+    let guest = c .before .before .args .guest in
+    let fits : guest % 256 ≡ guest = mod-eq-of-lt (omega arith) in
+    desk-becomes (withGuest guest) (c .put .ensures) (rw fits) (λ d. refl)
 
 pub put-guest-spec : {M : Type 1} → statement M
 put-guest-spec = tie.close (tie.spec put-requires returns)

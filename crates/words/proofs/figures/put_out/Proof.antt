@@ -1,22 +1,23 @@
-use borrow.Author.Needs.{needs}
+-- `figures::put_out` meets its contract: 1 or 0 comes back as the test.
+-- Assumes nothing.
+use Rattle.words.proofs.Desks.{desk-becomes}
+use Rattle.words.proofs.Packing.{one-back}
 use Rattle.words.proofs.figures.put_out.Statement.{statement}
 use Rattle.words.proofs.figures.put_out.Tie as tie
-use Rattle.words.proofs.figures.put_out.Reads as reads
-use Rattle.words.proofs.figures.put_out.Lts as lts
-use Rattle.words.proofs.figures.put.Reads as put-reads
-use Rattle.words.proofs.vehicles.word_if.Reads as word-if-reads
+use Rattle.words.specs.Words.{withOut}
+use borrow.Author.Needs.{needs}
 
--- src/figures.rt:170:25
 word-if-requires : tie.Need-word-if-requires
 word-if-requires c κs = search needs
 
--- src/figures.rt:170:5
 put-requires : tie.Need-put-requires
 put-requires c κs = search needs
 
--- src/figures.rt:167:1
 returns : tie.Need-returns
-returns c = ?
+returns c =
+    let out = c .before .before .before .args .out in
+    let word = c .before .word-if .ensures .0 in
+    desk-becomes (withOut out) (c .put .ensures) (rw (word, one-back out)) (λ d. rw word)
 
 pub put-out-spec : {M : Type 1} → statement M
 put-out-spec = tie.close (tie.spec word-if-requires put-requires returns)

@@ -1,56 +1,63 @@
+-- `kept::line_words` meets its contract. The loop's invariant: the words are the own words of the section with the first `i` places.
+-- Assumes nothing.
+use Prim.Native.Nat.{_-_, _≤_, min}
+use Rattle.section.proofs.Passes.{take-present}
+use Rattle.words.proofs.Keeping.{own-next}
 use Rattle.words.proofs.kept.line_words.Statement.{statement}
 use Rattle.words.proofs.kept.line_words.Tie as tie
-use Rattle.words.proofs.kept.line_words.Reads as reads
-use Rattle.words.proofs.kept.line_words.Lts as lts
-use Rattle.words.proofs.line.emptied_words.Reads as emptied-words-reads
-use Rattle.words.proofs.line.fitting.Reads as fitting-reads
-use Rattle.words.proofs.line.insert.Reads as insert-reads
+use Rattle.words.specs.Words.{OwnWords}
+use Rattle.working.specs.Sections.{emptied, withLine}
+use borrow.Author.Needs.{needs}
+use lib.ListN.{length, take}
+use mathlib.Core.Path.{_≡_}
+use native.Mathlib.Omega.{arith}
 
 abbrev Inv-loop : tie.InvT-loop
-Inv-loop places present words₀ i₀ words i = ?
+Inv-loop force count len places present words₀ i₀ words i = (i ≤ present) × (present ≤ 24) × OwnWords words (withLine (emptied force count) (take i places))
 
 abbrev μ-loop : tie.MeasureT-loop
-μ-loop places present words₀ i₀ words i = ?
+μ-loop force count len places present words₀ i₀ words i = present - i
 
--- src/kept.rt:33:9
 fitting-requires : tie.Need-fitting-requires Inv-loop μ-loop
-fitting-requires c κs = ?
+fitting-requires c κs = search needs
 
--- src/kept.rt:34:21
 emptied-words-requires : tie.Need-emptied-words-requires Inv-loop μ-loop
-emptied-words-requires c κs = ?
+emptied-words-requires c κs = search needs
 
--- src/kept.rt:36:5
 loop-holds : tie.Need-loop-holds Inv-loop μ-loop
-loop-holds c = ?
+loop-holds c = (omega arith, omega arith, c .emptied-words .ensures)
 
--- src/kept.rt:37:40
 mul-insert : tie.Need-mul-insert Inv-loop μ-loop
-mul-insert c = ?
+mul-insert c = omega arith
 
--- src/kept.rt:37:40
 array-copy-out-insert : tie.Need-array-copy-out-insert Inv-loop μ-loop
-array-copy-out-insert c = ?
+array-copy-out-insert c = omega arith
 
--- src/kept.rt:37:9
 insert-requires : tie.Need-insert-requires Inv-loop μ-loop
-insert-requires c κs = ?
+insert-requires c κs = search needs
 
--- src/kept.rt:38:9
 add-i : tie.Need-add-i Inv-loop μ-loop
-add-i c = ?
+add-i c = omega arith
 
--- src/kept.rt:36:5
 loop-less : tie.Need-loop-less Inv-loop μ-loop
-loop-less c = ?
+loop-less c = omega arith
 
--- src/kept.rt:36:5
 loop-again : tie.Need-loop-again Inv-loop μ-loop
-loop-again c = ?
+loop-again c =
+    let l = c .before .before .before .before .loop in
+    let a = c .before .before .before .before .before .before .before .args in
+    let places = a .t3 in
+    let long : length places ≡ 24 = search needs in
+    (omega arith, l .inv .1, own-next (emptied (a .force) (a .count)) places (l .i) (l .inv .2) (omega arith) long (c .insert .ensures))
 
--- src/kept.rt:29:1
 returns : tie.Need-returns Inv-loop μ-loop
-returns c = ?
+returns c =
+    let l = c .before .loop in
+    let a = c .before .before .before .before .args in
+    let places = a .t3 in
+    let long : length places ≡ 24 = search needs in
+    let all : l .i ≡ min (a .len) 24 = omega arith in
+    rw (all, take-present places (a .len) 24 long) at (l .inv .2)
 
 pub line-words-spec : {M : Type 1} → statement M
 line-words-spec =

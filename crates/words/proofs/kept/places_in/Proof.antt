@@ -1,61 +1,62 @@
+-- `kept::places_in` meets its contract. The loop's invariant: the places are those of the first `i` vehicles.
+-- Assumes nothing.
+use Prim.Native.Nat.{_+_, _-_, _≤_}
+use Rattle.words.proofs.Keeping.{place-next}
+use Rattle.words.proofs.Lines.{line-length}
 use Rattle.words.proofs.kept.places_in.Statement.{statement}
 use Rattle.words.proofs.kept.places_in.Tie as tie
-use Rattle.words.proofs.kept.places_in.Reads as reads
-use Rattle.words.proofs.kept.places_in.Lts as lts
-use Rattle.words.proofs.line.present_in.Reads as present-in-reads
-use Rattle.words.proofs.line.slot_of.Reads as slot-of-reads
-use Rattle.words.proofs.line.vehicle_at.Reads as vehicle-at-reads
-use Rattle.working.proofs.Vehicle.unused.Reads as unused-reads
+use Rattle.words.specs.Words.{lineIn, presentIn}
+use Rattle.working.specs.Sections.{padTo}
+use borrow.Author.Needs.{needs}
+use lib.ListN.{set, take}
+use lib.ListN.{take}
+use lib.Seq.{take-all}
+use mathlib.Core.Path.{_∙_, _≡_, ap, ap₂}
+use mathlib.Core.Path.{_∙_, _≡_, ap}
+use native.Mathlib.Omega.{arith}
 
 abbrev Inv-loop : tie.InvT-loop
-Inv-loop words present places₀ i₀ places i = ?
+Inv-loop words present places₀ i₀ places i = (i ≤ present) × (present ≡ presentIn words) × (places ≡ padTo 24 (take i (lineIn words)))
 
 abbrev μ-loop : tie.MeasureT-loop
-μ-loop words present places₀ i₀ places i = ?
+μ-loop words present places₀ i₀ places i = present - i
 
--- src/kept.rt:59:9
 present-in-requires : tie.Need-present-in-requires Inv-loop μ-loop
-present-in-requires c κs = ?
+present-in-requires c κs = search needs
 
--- src/kept.rt:60:23
 unused-requires : tie.Need-unused-requires Inv-loop μ-loop
-unused-requires c κs = ?
+unused-requires c κs = search needs
 
--- src/kept.rt:62:5
 loop-holds : tie.Need-loop-holds Inv-loop μ-loop
-loop-holds c = ?
+unfolding padTo
+loop-holds c = (omega arith, c .before .present-in .ensures, rw (c .unused .ensures))
 
--- src/kept.rt:63:39
-slot-of-requires : tie.Need-slot-of-requires Inv-loop μ-loop
-slot-of-requires c κs = ?
+at-place-requires : tie.Need-at-place-requires Inv-loop μ-loop
+at-place-requires c κs = omega arith
 
--- src/kept.rt:63:21
-vehicle-at-requires : tie.Need-vehicle-at-requires Inv-loop μ-loop
-vehicle-at-requires c κs = ?
-
--- src/kept.rt:63:9
 mul-places : tie.Need-mul-places Inv-loop μ-loop
-mul-places c = ?
+mul-places c = omega arith
 
--- src/kept.rt:63:9
 array-set-from-places : tie.Need-array-set-from-places Inv-loop μ-loop
-array-set-from-places c = ?
+array-set-from-places c = omega arith
 
--- src/kept.rt:64:9
 add-i : tie.Need-add-i Inv-loop μ-loop
-add-i c = ?
+add-i c = omega arith
 
--- src/kept.rt:62:5
 loop-less : tie.Need-loop-less Inv-loop μ-loop
-loop-less c = ?
+loop-less c = omega arith
 
--- src/kept.rt:62:5
 loop-again : tie.Need-loop-again Inv-loop μ-loop
-loop-again c = ?
+loop-again c =
+    let l = c .before .before .loop in
+    let w = c .before .before .before .before .before .args .words .now in
+    (omega arith, l .inv .1, ap₂ (λ t v. set t (l .i) v) (l .inv .2) (c .at-place .ensures) ∙ place-next (lineIn w) (l .i) (omega (arith, line-length w)))
 
--- src/kept.rt:56:1
 returns : tie.Need-returns Inv-loop μ-loop
-returns c = ?
+returns c =
+    let l = c .before .loop in
+    let w = c .before .before .before .before .args .words .now in
+    l .inv .2 ∙ ap (padTo 24) (take-all (l .i) (lineIn w) (omega (arith, line-length w)))
 
 pub places-in-spec : {M : Type 1} → statement M
 places-in-spec =
@@ -66,8 +67,7 @@ places-in-spec =
     present-in-requires
     unused-requires
     loop-holds
-    slot-of-requires
-    vehicle-at-requires
+    at-place-requires
     mul-places
     array-set-from-places
     add-i

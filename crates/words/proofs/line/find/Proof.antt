@@ -1,58 +1,65 @@
+-- `line::find` meets its contract. The loop's invariant: none of the first `i` is the one named, so that it is found `i` places further on than from there.
+-- Assumes nothing.
+use Prim.Native.Nat.{_+_, _-_, _≤_}
+use Rattle.words.proofs.Lines.{find-end, find-on, line-length}
 use Rattle.words.proofs.line.find.Statement.{statement}
 use Rattle.words.proofs.line.find.Tie as tie
-use Rattle.words.proofs.line.find.Reads as reads
-use Rattle.words.proofs.line.find.Lts as lts
-use Rattle.section.proofs.is_named.Reads as is-named-reads
-use Rattle.words.proofs.line.place_if.Reads as place-if-reads
-use Rattle.words.proofs.line.present_in.Reads as present-in-reads
-use Rattle.words.proofs.line.slot_of.Reads as slot-of-reads
-use Rattle.words.proofs.line.vehicle_at.Reads as vehicle-at-reads
+use Rattle.words.specs.Words.{lineIn, presentIn}
+use Rattle.working.specs.Reasons.{findOf, isNamed}
+use Rattle.working.specs.Sections.{unused}
+use borrow.Author.Needs.{needs}
+use lib.ListN.{drop, getD}
+use mathlib.Core.Bool.{false, true}
+use mathlib.Core.Path.{_∙_, _≡_, ap, sym}
+use native.Mathlib.Omega.{arith}
 
 abbrev Inv-loop : tie.InvT-loop
-Inv-loop words sender form present found₀ i₀ found i = ?
+Inv-loop words sender form present i₀ i = (i ≤ present) × (present ≡ presentIn words) × (findOf sender form (lineIn words) ≡ i + findOf sender form (drop i (lineIn words)))
 
 abbrev μ-loop : tie.MeasureT-loop
-μ-loop words sender form present found₀ i₀ found i = ?
+μ-loop words sender form present i₀ i = present - i
 
--- src/line.rt:169:9
 present-in-requires : tie.Need-present-in-requires Inv-loop μ-loop
-present-in-requires c κs = ?
+present-in-requires c κs = search needs
 
--- src/line.rt:172:5
 loop-holds : tie.Need-loop-holds Inv-loop μ-loop
-loop-holds c = ?
+loop-holds c = (omega arith, c .present-in .ensures, omega arith)
 
--- src/line.rt:173:9
-sub-i : tie.Need-sub-i Inv-loop μ-loop
-sub-i c = ?
+at-place-requires : tie.Need-at-place-requires Inv-loop μ-loop
+at-place-requires c κs = omega arith
 
--- src/line.rt:174:67
-slot-of-requires : tie.Need-slot-of-requires Inv-loop μ-loop
-slot-of-requires c κs = ?
-
--- src/line.rt:174:49
-vehicle-at-requires : tie.Need-vehicle-at-requires Inv-loop μ-loop
-vehicle-at-requires c κs = ?
-
--- src/line.rt:174:26
 is-named-requires : tie.Need-is-named-requires Inv-loop μ-loop
-is-named-requires c κs = ?
+is-named-requires c κs = search needs
 
--- src/line.rt:174:9
-place-if-requires : tie.Need-place-if-requires Inv-loop μ-loop
-place-if-requires c κs = ?
-
--- src/line.rt:172:5
-loop-less : tie.Need-loop-less Inv-loop μ-loop
-loop-less c = ?
-
--- src/line.rt:172:5
-loop-again : tie.Need-loop-again Inv-loop μ-loop
-loop-again c = ?
-
--- src/line.rt:166:1
 returns : tie.Need-returns Inv-loop μ-loop
-returns c = ?
+returns c =
+    let here = c .before .before in
+    let l = here .before .before .loop in
+    let a = here .before .before .before .before .args in
+    let line = lineIn (a .words .now) in
+    let named : isNamed (a .sender) (a .form) (getD line (l .i) unused) ≡ true = ap (isNamed (a .sender) (a .form)) (sym (here .at-place .ensures)) ∙ sym (c .before .is-named .ensures) ∙ c .if1 .taken in
+    (omega (arith, find-on (a .sender) (a .form) line (l .i) (omega (arith, line-length (a .words .now))) named), omega arith)
+
+add-i : tie.Need-add-i Inv-loop μ-loop
+add-i c = omega arith
+
+loop-less : tie.Need-loop-less Inv-loop μ-loop
+loop-less c = omega arith
+
+loop-again : tie.Need-loop-again Inv-loop μ-loop
+loop-again c =
+    let here = c .before .before in
+    let l = here .before .before .loop in
+    let a = here .before .before .before .before .args in
+    let line = lineIn (a .words .now) in
+    let other : isNamed (a .sender) (a .form) (getD line (l .i) unused) ≡ false = ap (isNamed (a .sender) (a .form)) (sym (here .at-place .ensures)) ∙ sym (c .before .is-named .ensures) ∙ c .if1 .left in
+    (omega arith, l .inv .1, omega (arith, find-on (a .sender) (a .form) line (l .i) (omega (arith, line-length (a .words .now))) other))
+
+returns-2 : tie.Need-returns-2 Inv-loop μ-loop
+returns-2 c =
+    let l = c .before .loop in
+    let a = c .before .before .before .args in
+    (omega (arith, find-end (a .sender) (a .form) (lineIn (a .words .now)) (l .i) (omega (arith, line-length (a .words .now)))), omega arith)
 
 pub find-spec : {M : Type 1} → statement M
 find-spec =
@@ -62,11 +69,10 @@ find-spec =
     μ-loop
     present-in-requires
     loop-holds
-    sub-i
-    slot-of-requires
-    vehicle-at-requires
+    at-place-requires
     is-named-requires
-    place-if-requires
+    returns
+    add-i
     loop-less
     loop-again
-    returns)
+    returns-2)

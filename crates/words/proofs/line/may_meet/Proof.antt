@@ -1,56 +1,51 @@
-use borrow.Author.Needs.{needs}
+-- `line::may_meet` meets its contract: off the line the first test fails, and on it the code joins the others in their order.
+-- Assumes nothing.
+use Prim.Native.Nat.{_+_, _<_}
+use Rattle.words.proofs.Lines.{line-length}
 use Rattle.words.proofs.line.may_meet.Statement.{statement}
 use Rattle.words.proofs.line.may_meet.Tie as tie
-use Rattle.words.proofs.line.may_meet.Reads as reads
-use Rattle.words.proofs.line.may_meet.Lts as lts
-use Rattle.section.proofs.is_opener.Reads as is-opener-reads
-use Rattle.words.proofs.line.present_in.Reads as present-in-reads
-use Rattle.words.proofs.line.slot_of.Reads as slot-of-reads
-use Rattle.words.proofs.line.vehicle_at.Reads as vehicle-at-reads
+use Rattle.words.specs.Words.{lineIn}
+use borrow.Author.Needs.{needs}
+use borrow.Author.Tests.{le-ltb, lt-ltb}
+use lib.ListN.{length}
+use mathlib.Core.Bool.{and-assoc, and-true}
+use mathlib.Core.Path.{_≡_}
+use native.Mathlib.Omega.{arith}
 
--- src/line.rt:184:8
 present-in-requires : tie.Need-present-in-requires
 present-in-requires c κs = search needs
 
--- src/line.rt:184:29
 add-if1 : tie.Need-add-if1
 add-if1 c = search needs
 
--- src/line.rt:185:9
 returns : tie.Need-returns
-returns c = ?
+returns c =
+    let a = c .before .before .args in
+    rw (le-ltb (a .i + 1) (length (lineIn (a .words .now))) (omega (arith, line-length (a .words .now))))
 
--- src/line.rt:187:31
-slot-of-requires : tie.Need-slot-of-requires
-slot-of-requires c κs = search needs
+at-place-requires : tie.Need-at-place-requires
+at-place-requires c κs = search needs
 
--- src/line.rt:187:9
-vehicle-at-requires : tie.Need-vehicle-at-requires
-vehicle-at-requires c κs = search needs
+add-at-place : tie.Need-add-at-place
+add-at-place c = search needs
 
--- src/line.rt:188:46
-add-slot-of : tie.Need-add-slot-of
-add-slot-of c = search needs
+at-place-requires-2 : tie.Need-at-place-requires-2
+at-place-requires-2 c κs = search needs
 
--- src/line.rt:188:31
-slot-of-requires-2 : tie.Need-slot-of-requires-2
-slot-of-requires-2 c κs = search needs
-
--- src/line.rt:188:9
-vehicle-at-requires-2 : tie.Need-vehicle-at-requires-2
-vehicle-at-requires-2 c κs = search needs
-
--- src/line.rt:191:43
 is-opener-requires : tie.Need-is-opener-requires
 is-opener-requires c κs = search needs
 
--- src/line.rt:191:64
 is-opener-requires-2 : tie.Need-is-opener-requires-2
 is-opener-requires-2 c κs = search needs
 
--- src/line.rt:180:1
 returns-2 : tie.Need-returns-2
-returns-2 c = ?
+returns-2 c =
+    let second = c .before .before .before .before in
+    let first = second .before in
+    let a = first .before .before .before .args in
+    let l = lineIn (a .words .now) in
+    let on : a .i + 1 < length l = omega (arith, line-length (a .words .now)) in
+    simp (and-assoc, and-true) (rw (lt-ltb (a .i + 1) (length l) on, c .is-opener2 .ensures, c .before .is-opener .ensures, first .at-place .ensures, second .at-place2 .ensures))
 
 pub may-meet-spec : {M : Type 1} → statement M
 may-meet-spec =
@@ -59,11 +54,9 @@ may-meet-spec =
     present-in-requires
     add-if1
     returns
-    slot-of-requires
-    vehicle-at-requires
-    add-slot-of
-    slot-of-requires-2
-    vehicle-at-requires-2
+    at-place-requires
+    add-at-place
+    at-place-requires-2
     is-opener-requires
     is-opener-requires-2
     returns-2)

@@ -1,41 +1,55 @@
-use borrow.Author.Needs.{needs}
+-- `line::nearest` meets its contract: the first or the last of the line, if there is one.
+-- Assumes nothing.
+use Prim.Native.Nat.{_-_}
+use Rattle.words.proofs.Lines.{line-length, line-of, near-none}
 use Rattle.words.proofs.line.nearest.Statement.{statement}
 use Rattle.words.proofs.line.nearest.Tie as tie
-use Rattle.words.proofs.line.nearest.Reads as reads
-use Rattle.words.proofs.line.nearest.Lts as lts
-use Rattle.words.proofs.line.nearest_slot.Reads as nearest-slot-reads
-use Rattle.words.proofs.line.present_in.Reads as present-in-reads
-use Rattle.words.proofs.line.start_in.Reads as start-in-reads
-use Rattle.words.proofs.line.vehicle_at.Reads as vehicle-at-reads
-use Rattle.working.proofs.Vehicle.unused.Reads as unused-reads
+use Rattle.words.specs.Words.{lineIn}
+use Rattle.working.specs.Sections.{unused}
+use borrow.Author.Needs.{needs}
+use lib.ListN.{getD, length}
+use mathlib.Core.Path.{_∙_, _≡_, ap, sym}
+use native.Mathlib.Omega.{arith}
 
--- src/line.rt:143:9
 present-in-requires : tie.Need-present-in-requires
 present-in-requires c κs = search needs
 
--- src/line.rt:145:9
 unused-requires : tie.Need-unused-requires
 unused-requires c κs = search needs
 
--- src/line.rt:145:9
 returns : tie.Need-returns
-returns c = ?
+returns c =
+    let a = c .before .before .before .args in
+    let w = a .words .now in
+    rw (line-of w) (c .unused .ensures ∙ sym (near-none (a .at) (lineIn w) (omega (arith, line-length w))))
 
--- src/line.rt:147:40
-start-in-requires : tie.Need-start-in-requires
-start-in-requires c κs = search needs
+enum-told : tie.Need-enum-told
+enum-told c = search needs
 
--- src/line.rt:147:23
-nearest-slot-requires : tie.Need-nearest-slot-requires
-nearest-slot-requires c κs = search needs
+at-place-requires : tie.Need-at-place-requires
+at-place-requires c κs = search needs
 
--- src/line.rt:147:5
-vehicle-at-requires : tie.Need-vehicle-at-requires
-vehicle-at-requires c κs = search needs
+enum-told-2 : tie.Need-enum-told-2
+enum-told-2 c = search needs
 
--- src/line.rt:140:1
+sub-at-place : tie.Need-sub-at-place
+sub-at-place c = search needs
+
+at-place-requires-2 : tie.Need-at-place-requires-2
+at-place-requires-2 c κs = search needs
+
 returns-2 : tie.Need-returns-2
-returns-2 c = ?
+returns-2 c =
+    let a = c .before .before .before .before .before .args in
+    rw (line-of (a .words .now), c .before .enum-told .given .1) (c .at-place .ensures)
+
+returns-3 : tie.Need-returns-3
+returns-3 c =
+    let present = c .before .before .before .before in
+    let a = present .before .args in
+    let w = a .words .now in
+    let last : present .present-in .result - 1 ≡ length (lineIn w) - 1 = omega (arith, line-length w) in
+    rw (line-of w, c .before .enum-told2 .given .1) (c .at-place2 .ensures ∙ ap (λ k. getD (lineIn w) k unused) last)
 
 pub nearest-spec : {M : Type 1} → statement M
 nearest-spec =
@@ -44,7 +58,10 @@ nearest-spec =
     present-in-requires
     unused-requires
     returns
-    start-in-requires
-    nearest-slot-requires
-    vehicle-at-requires
-    returns-2)
+    enum-told
+    at-place-requires
+    enum-told-2
+    sub-at-place
+    at-place-requires-2
+    returns-2
+    returns-3)

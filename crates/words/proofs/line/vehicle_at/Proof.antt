@@ -1,49 +1,45 @@
-use borrow.Author.Needs.{needs}
+-- `line::vehicle_at` meets its contract: the ring lies behind the other words.
+-- Assumes nothing.
+use Prim.Native.Nat.{_*_, _+_}
 use Rattle.words.proofs.line.vehicle_at.Statement.{statement}
 use Rattle.words.proofs.line.vehicle_at.Tie as tie
-use Rattle.words.proofs.line.vehicle_at.Reads as reads
-use Rattle.words.proofs.line.vehicle_at.Lts as lts
-use Rattle.words.proofs.vehicles.vehicle_in.Reads as vehicle-in-reads
+use Rattle.words.specs.Words.{ringAt, vehicleIn}
+use borrow.Author.Needs.{needs}
+use lib.Seq.{getD-drop}
+use mathlib.Core.Path.{_∙_, ap₂, sym}
 
--- src/line.rt:74:17
 mul-first : tie.Need-mul-first
 mul-first c = search needs
 
--- src/line.rt:75:22
 add-vehicle-in : tie.Need-add-vehicle-in
 add-vehicle-in c = search needs
 
--- src/line.rt:75:16
 mul-vehicle-in : tie.Need-mul-vehicle-in
 mul-vehicle-in c = search needs
 
--- src/line.rt:75:16
 element-copy-out-vehicle-in : tie.Need-element-copy-out-vehicle-in
 element-copy-out-vehicle-in c = search needs
 
--- src/line.rt:75:51
 add-vehicle-in-2 : tie.Need-add-vehicle-in-2
 add-vehicle-in-2 c = search needs
 
--- src/line.rt:75:43
 add-vehicle-in-3 : tie.Need-add-vehicle-in-3
 add-vehicle-in-3 c = search needs
 
--- src/line.rt:75:37
 mul-vehicle-in-2 : tie.Need-mul-vehicle-in-2
 mul-vehicle-in-2 c = search needs
 
--- src/line.rt:75:37
 element-copy-out-vehicle-in-2 : tie.Need-element-copy-out-vehicle-in-2
 element-copy-out-vehicle-in-2 c = search needs
 
--- src/line.rt:75:5
 vehicle-in-requires : tie.Need-vehicle-in-requires
 vehicle-in-requires c κs = search needs
 
--- src/line.rt:70:1
 returns : tie.Need-returns
-returns c = ?
+returns c =
+    let a = c .before .before .before .args in
+    let w = a .words .now in
+    c .vehicle-in .ensures ∙ sym (ap₂ vehicleIn (getD-drop ringAt w (2 * a .slot) 0) (getD-drop ringAt w (2 * a .slot + 1) 0))
 
 pub vehicle-at-spec : {M : Type 1} → statement M
 vehicle-at-spec =

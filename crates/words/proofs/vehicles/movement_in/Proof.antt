@@ -1,32 +1,29 @@
-use borrow.Author.Needs.{needs}
+-- `vehicles::movement_in` meets its contract: the low byte is 0, 1, 2 or more, and the definition goes by it.
+-- Assumes nothing.
+use Rattle.words.proofs.Packing.{left-train}
 use Rattle.words.proofs.vehicles.movement_in.Statement.{statement}
 use Rattle.words.proofs.vehicles.movement_in.Tie as tie
-use Rattle.words.proofs.vehicles.movement_in.Reads as reads
-use Rattle.words.proofs.vehicles.movement_in.Lts as lts
+use Prim.Native.Nat.{_%_}
+use borrow.Author.Needs.{needs}
+use native.Mathlib.Omega.{arith}
 
--- src/vehicles.rt:75:19
 cast-granted : tie.Need-cast-granted
 cast-granted c = search needs
 
--- src/vehicles.rt:76:17
 cast-asked : tie.Need-cast-asked
 cast-asked c = search needs
 
--- src/vehicles.rt:78:9
 returns : tie.Need-returns
-returns c = ?
+returns c = rw (c .if1 .taken)
 
--- src/vehicles.rt:81:9
 returns-2 : tie.Need-returns-2
-returns-2 c = ?
+returns-2 c = rw (c .if2 .taken)
 
--- src/vehicles.rt:84:9
 returns-3 : tie.Need-returns-3
-returns-3 c = ?
+returns-3 c = rw (c .if3 .taken)
 
--- src/vehicles.rt:71:1
 returns-4 : tie.Need-returns-4
-returns-4 c = ?
+returns-4 c = left-train (c .before .before .before .args .second % 256) (omega arith)
 
 pub movement-in-spec : {M : Type 1} → statement M
 movement-in-spec =

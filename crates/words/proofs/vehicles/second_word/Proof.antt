@@ -1,57 +1,44 @@
-use borrow.Author.Needs.{needs}
+-- `vehicles::second_word` meets its contract: each arm packs the figures that it binds, with the number of what the vehicle left on.
+-- Assumes nothing.
 use Rattle.words.proofs.vehicles.second_word.Statement.{statement}
 use Rattle.words.proofs.vehicles.second_word.Tie as tie
-use Rattle.words.proofs.vehicles.second_word.Reads as reads
-use Rattle.words.proofs.vehicles.second_word.Lts as lts
-use Rattle.words.proofs.vehicles.packed.Reads as packed-reads
+use borrow.Author.Needs.{needs}
 
--- src/vehicles.rt:64:26
 enum-known-movement : tie.Need-enum-known-movement
 enum-known-movement c = search needs
 
--- src/vehicles.rt:64:37
 packed-requires : tie.Need-packed-requires
 packed-requires c κs = search needs
 
--- src/vehicles.rt:65:30
 enum-told : tie.Need-enum-told
 enum-told c = search needs
 
--- src/vehicles.rt:65:30
 packed-requires-2 : tie.Need-packed-requires-2
 packed-requires-2 c κs = search needs
 
--- src/vehicles.rt:66:28
 enum-known-movement-2 : tie.Need-enum-known-movement-2
 enum-known-movement-2 c = search needs
 
--- src/vehicles.rt:66:48
 packed-requires-3 : tie.Need-packed-requires-3
 packed-requires-3 c κs = search needs
 
--- src/vehicles.rt:67:27
 enum-known-movement-3 : tie.Need-enum-known-movement-3
 enum-known-movement-3 c = search needs
 
--- src/vehicles.rt:67:47
 packed-requires-4 : tie.Need-packed-requires-4
 packed-requires-4 c κs = search needs
 
--- src/vehicles.rt:60:1
 returns : tie.Need-returns
-returns c = ?
+returns c = rw (c .before .before .movement .given .1) (c .packed .ensures)
 
--- src/vehicles.rt:60:1
 returns-2 : tie.Need-returns-2
-returns-2 c = ?
+returns-2 c = rw (c .before .enum-told .given .1) (c .packed2 .ensures)
 
--- src/vehicles.rt:60:1
 returns-3 : tie.Need-returns-3
-returns-3 c = ?
+returns-3 c = rw (c .before .before .movement2 .given .1) (c .packed3 .ensures)
 
--- src/vehicles.rt:60:1
 returns-4 : tie.Need-returns-4
-returns-4 c = ?
+returns-4 c = rw (c .before .before .movement3 .given .1) (c .packed4 .ensures)
 
 pub second-word-spec : {M : Type 1} → statement M
 second-word-spec =

@@ -1,33 +1,26 @@
-use borrow.Author.Needs.{needs}
+-- `vehicles::vehicle_in` meets its contract: each figure is taken as the definition takes it.
+-- Assumes nothing.
 use Rattle.words.proofs.vehicles.vehicle_in.Statement.{statement}
 use Rattle.words.proofs.vehicles.vehicle_in.Tie as tie
-use Rattle.words.proofs.vehicles.vehicle_in.Reads as reads
-use Rattle.words.proofs.vehicles.vehicle_in.Lts as lts
-use Rattle.words.proofs.vehicles.movement_in.Reads as movement-in-reads
+use borrow.Author.Needs.{needs}
 
--- src/vehicles.rt:94:19
 movement-in-requires : tie.Need-movement-in-requires
 movement-in-requires c κs = search needs
 
--- src/vehicles.rt:95:17
 cast-t6 : tie.Need-cast-t6
 cast-t6 c = search needs
 
--- src/vehicles.rt:96:15
 cast-t8 : tie.Need-cast-t8
 cast-t8 c = search needs
 
--- src/vehicles.rt:97:18
 cast-t11 : tie.Need-cast-t11
 cast-t11 c = search needs
 
--- src/vehicles.rt:99:16
 cast-t17 : tie.Need-cast-t17
 cast-t17 c = search needs
 
--- src/vehicles.rt:90:1
 returns : tie.Need-returns
-returns c = ?
+returns c = rw (c .movement-in .ensures)
 
 pub vehicle-in-spec : {M : Type 1} → statement M
 vehicle-in-spec =

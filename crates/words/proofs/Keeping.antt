@@ -1,0 +1,59 @@
+-- A section put into words: the words of an empty one, then each vehicle of the line entered at B's end, then the desks; at each step they are the own words of
+-- the section so far. And the places read off them, one after another.
+-- Assumes nothing.
+use Prim.Native.Nat.{_+_, _<_, _≤_, min, suc, zero, ℕ}
+use Rattle.section.proofs.Passes.{take-present}
+use Rattle.words.proofs.Becoming.{becomes-as, desk-length, own-then}
+use Rattle.words.proofs.Packing.{one-back}
+use Rattle.words.specs.Words.{DeskBecomes, LineBecomes, OwnWords, bySlot, ringAt, sectionIn, slotWords, startIn, startOn, wordCount, wordsOf}
+use Rattle.working.proofs.Made.{line-with}
+use Rattle.working.specs.Sections.{emptied, insertAt, lineOf, padTo, unused, withDesk, withLine}
+use Rattle.working.specs.WellMade.{oneIf}
+use Rattle.working.specs.declared.Desk.{Desk}
+use Rattle.working.specs.declared.Section.{Section}
+use Rattle.working.specs.declared.Station.the-variants.{A, B}
+use Rattle.working.specs.declared.Station.{Station}
+use Rattle.working.specs.declared.Vehicle.{Vehicle}
+use lib.ListN.{getD, length, length-append, replicate, set, take}
+use lib.Seq.{length-take-le, take-suc}
+use mathlib.Core.Bool.{Bool}
+use mathlib.Core.List.{List, [], _++_, _∷_}
+use mathlib.Core.Path.{_∙_, _≡_, ap, refl, sym}
+use native.Mathlib.Nat.{mod-eq-of-lt}
+use native.Mathlib.Numerals.{add-one}
+use native.Mathlib.Omega.{arith}
+
+pub own-emptied : (force : Bool) (count : ℕ) → count < 4294967296 → OwnWords (set (set (replicate wordCount 0) 1 (oneIf force)) 2 count) (emptied force count)
+unfolding sectionIn wordsOf slotWords bySlot padTo
+own-emptied force count fits = record { section = rw (one-back force, mod-eq-of-lt fits); start = refl; words = refl; fits = omega arith }
+
+-- one more vehicle of a line
+pub own-next : {w after : List ℕ} (s : Section) (places : List Vehicle) (i : ℕ) → OwnWords w (withLine s (take i places)) → i < 24 → length places ≡ 24
+    → LineBecomes w after (insertAt B (getD places i unused)) (λ start. startOn B start 31) → OwnWords after (withLine s (take (i + 1) places))
+own-next {w} {after} s places i own less long b =
+    let l = take i places in
+    let v = getD places i unused in
+    let size : length l ≡ i = length-take-le i places (omega arith) in
+    let fits : length l ≤ 24 = omega arith in
+    let entered : OwnWords after (withLine s (insertAt B v l)) =
+    own-then own
+    (becomes-as b (ap (λ z. withLine z (insertAt B v (lineOf z))) (own .section) ∙ ap (λ t. withLine s (insertAt B v t)) (line-with 24 l fits)) refl)
+    (omega (arith, length-append l (v ∷ []))) in
+    rw (add-one i, take-suc places i unused (omega arith)) entered
+
+-- a desk
+pub own-desk : {w after : List ℕ} {s : Section} (x : Station) (d : Desk) → OwnWords w s → DeskBecomes w after x (λ z. d) → OwnWords after (withDesk s x d)
+own-desk {w} {after} {s} x d own b = own-then own (becomes-as b (ap (λ z. withDesk z x d) (own .section)) refl) (omega (arith, desk-length s x d, own .fits))
+
+-- ---- the places read off
+
+pad-snoc : (n : ℕ) (l : List Vehicle) (v : Vehicle) → set (padTo n l) (length l) v ≡ padTo n (l ++ v ∷ [])
+unfolding padTo
+pad-snoc zero l v = refl
+pad-snoc (suc n) [] v = refl
+pad-snoc (suc n) (u ∷ l) v = ap (λ (t : List Vehicle). u ∷ t) (pad-snoc n l v)
+
+pub place-next : (l : List Vehicle) (i : ℕ) → i < length l → set (padTo 24 (take i l)) i (getD l i unused) ≡ padTo 24 (take (i + 1) l)
+place-next l i less =
+    rw (add-one i, take-suc l i unused less)
+    (ap (λ k. set (padTo 24 (take i l)) k (getD l i unused)) (sym (length-take-le i l (omega arith))) ∙ pad-snoc 24 (take i l) (getD l i unused))

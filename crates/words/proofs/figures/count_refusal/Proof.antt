@@ -9,18 +9,6 @@ use lib.ListN.{length}
 use mathlib.Core.Path.{_∙_, _≡_, ap}
 use native.Mathlib.Omega.{arith}
 
-refused-requires : tie.Need-refused-requires
-refused-requires c κs = search needs
-
-one-more-requires : tie.Need-one-more-requires
-one-more-requires c κs = search needs
-
-cast-words : tie.Need-cast-words
-cast-words c = search needs
-
-element-write-words : tie.Need-element-write-words
-element-write-words c = search needs
-
 returns : tie.Need-returns
 returns c =
     let refused = c .before in
@@ -30,4 +18,4 @@ returns c =
 
 pub count-refusal-spec : {M : Type 1} → statement M
 count-refusal-spec =
-    tie.close (tie.spec refused-requires one-more-requires cast-words element-write-words returns)
+    tie.close (tie.spec (λ c κs. search needs) (λ c κs. search needs) (λ c. search needs) (λ c. search needs) returns)

@@ -5,36 +5,6 @@ use Rattle.words.proofs.figures.desk.Statement.{statement}
 use Rattle.words.proofs.figures.desk.Tie as tie
 use borrow.Author.Needs.{needs}
 
-short-at-requires : tie.Need-short-at-requires
-short-at-requires c κs = search needs
-
-short-at-requires-2 : tie.Need-short-at-requires-2
-short-at-requires-2 c κs = search needs
-
-byte-at-requires : tie.Need-byte-at-requires
-byte-at-requires c κs = search needs
-
-word-at-requires : tie.Need-word-at-requires
-word-at-requires c κs = search needs
-
-interval-in-requires : tie.Need-interval-in-requires
-interval-in-requires c κs = search needs
-
-word-at-requires-2 : tie.Need-word-at-requires-2
-word-at-requires-2 c κs = search needs
-
-byte-at-requires-2 : tie.Need-byte-at-requires-2
-byte-at-requires-2 c κs = search needs
-
-byte-at-requires-3 : tie.Need-byte-at-requires-3
-byte-at-requires-3 c κs = search needs
-
-byte-at-requires-4 : tie.Need-byte-at-requires-4
-byte-at-requires-4 c κs = search needs
-
-byte-at-requires-5 : tie.Need-byte-at-requires-5
-byte-at-requires-5 c κs = search needs
-
 returns : tie.Need-returns
 returns c =
     let holds = c .before in
@@ -52,14 +22,14 @@ pub desk-spec : {M : Type 1} → statement M
 desk-spec =
     tie.close
     (tie.spec
-    short-at-requires
-    short-at-requires-2
-    byte-at-requires
-    word-at-requires
-    interval-in-requires
-    word-at-requires-2
-    byte-at-requires-2
-    byte-at-requires-3
-    byte-at-requires-4
-    byte-at-requires-5
+    (λ c κs. search needs)
+    (λ c κs. search needs)
+    (λ c κs. search needs)
+    (λ c κs. search needs)
+    (λ c κs. search needs)
+    (λ c κs. search needs)
+    (λ c κs. search needs)
+    (λ c κs. search needs)
+    (λ c κs. search needs)
+    (λ c κs. search needs)
     returns)

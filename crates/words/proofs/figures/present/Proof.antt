@@ -5,12 +5,9 @@ use Rattle.words.proofs.figures.present.Tie as tie
 use Rattle.words.specs.Words.{sectionIn}
 use borrow.Author.Needs.{needs}
 
-element-copy-out-result : tie.Need-element-copy-out-result
-element-copy-out-result c = search needs
-
 returns : tie.Need-returns
 unfolding sectionIn
 returns c = search needs
 
 pub present-spec : {M : Type 1} → statement M
-present-spec = tie.close (tie.spec element-copy-out-result returns)
+present-spec = tie.close (tie.spec (λ c. search needs) returns)

@@ -12,18 +12,6 @@ use lib.Seq.{drop-set-lt, take-set-le}
 use mathlib.Core.Path.{_≡_}
 use native.Mathlib.Omega.{arith}
 
-desk-from-requires : tie.Need-desk-from-requires
-desk-from-requires c κs = search needs
-
-add-words : tie.Need-add-words
-add-words c = search needs
-
-mul-words : tie.Need-mul-words
-mul-words c = search needs
-
-element-write-words : tie.Need-element-write-words
-element-write-words c = search needs
-
 returns : tie.Need-returns
 returns c =
     let a = c .before .before .before .args in
@@ -39,4 +27,4 @@ returns c =
     })
 
 pub put-spec : {M : Type 1} → statement M
-put-spec = tie.close (tie.spec desk-from-requires add-words mul-words element-write-words returns)
+put-spec = tie.close (tie.spec (λ c κs. search needs) (λ c. search needs) (λ c. search needs) (λ c. search needs) returns)

@@ -7,18 +7,6 @@ use Rattle.words.specs.Words.{withClears, withEntered, withGuest, withOu
 use Rattle.working.specs.declared.Desk.{Desk}
 use borrow.Author.Needs.{needs}
 
-put-entered-requires : tie.Need-put-entered-requires
-put-entered-requires c κs = search needs
-
-put-out-requires : tie.Need-put-out-requires
-put-out-requires c κs = search needs
-
-put-guest-requires : tie.Need-put-guest-requires
-put-guest-requires c κs = search needs
-
-put-clears-requires : tie.Need-put-clears-requires
-put-clears-requires c κs = search needs
-
 returns : tie.Need-returns
 returns c =
     let guest = c .before .before in
@@ -35,4 +23,4 @@ returns c =
 pub put-desk-spec : {M : Type 1} → statement M
 put-desk-spec =
     tie.close
-    (tie.spec put-entered-requires put-out-requires put-guest-requires put-clears-requires returns)
+    (tie.spec (λ c κs. search needs) (λ c κs. search needs) (λ c κs. search needs) (λ c κs. search needs) returns)

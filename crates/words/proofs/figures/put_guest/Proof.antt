@@ -10,9 +10,6 @@ use mathlib.Core.Path.{_≡_, refl}
 use native.Mathlib.Nat.{mod-eq-of-lt}
 use native.Mathlib.Omega.{arith}
 
-put-requires : tie.Need-put-requires
-put-requires c κs = search needs
-
 returns : tie.Need-returns
 returns c =
     let guest = c .before .before .args .guest in
@@ -20,4 +17,4 @@ returns c =
     desk-becomes (withGuest guest) (c .put .ensures) (rw fits) (λ d. refl)
 
 pub put-guest-spec : {M : Type 1} → statement M
-put-guest-spec = tie.close (tie.spec put-requires returns)
+put-guest-spec = tie.close (tie.spec (λ c κs. search needs) returns)

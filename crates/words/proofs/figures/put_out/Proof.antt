@@ -7,12 +7,6 @@ use Rattle.words.proofs.figures.put_out.Tie as tie
 use Rattle.words.specs.Words.{withOut}
 use borrow.Author.Needs.{needs}
 
-word-if-requires : tie.Need-word-if-requires
-word-if-requires c κs = search needs
-
-put-requires : tie.Need-put-requires
-put-requires c κs = search needs
-
 returns : tie.Need-returns
 returns c =
     let out = c .before .before .before .args .out in
@@ -20,4 +14,4 @@ returns c =
     desk-becomes (withOut out) (c .put .ensures) (rw (word, one-back out)) (λ d. rw word)
 
 pub put-out-spec : {M : Type 1} → statement M
-put-out-spec = tie.close (tie.spec word-if-requires put-requires returns)
+put-out-spec = tie.close (tie.spec (λ c κs. search needs) (λ c κs. search needs) returns)

@@ -5,15 +5,9 @@ use Rattle.words.proofs.figures.refused.Tie as tie
 use Rattle.words.specs.Words.{sectionIn}
 use borrow.Author.Needs.{needs}
 
-element-copy-out-result : tie.Need-element-copy-out-result
-element-copy-out-result c = search needs
-
-cast-result : tie.Need-cast-result
-cast-result c = search needs
-
 returns : tie.Need-returns
 unfolding sectionIn
 returns c = search needs
 
 pub refused-spec : {M : Type 1} → statement M
-refused-spec = tie.close (tie.spec element-copy-out-result cast-result returns)
+refused-spec = tie.close (tie.spec (λ c. search needs) (λ c. search needs) returns)

@@ -12,18 +12,6 @@ use mathlib.Core.Path.{_≡_, sym}
 use mathlib.Core.Path.{sym}
 use native.Mathlib.Omega.{arith}
 
-desk-from-requires : tie.Need-desk-from-requires
-desk-from-requires c κs = search needs
-
-add-result : tie.Need-add-result
-add-result c = search needs
-
-mul-result : tie.Need-mul-result
-mul-result c = search needs
-
-element-copy-out-result : tie.Need-element-copy-out-result
-element-copy-out-result c = search needs
-
 returns : tie.Need-returns
 returns c =
     let a = c .before .before .args in
@@ -31,4 +19,4 @@ returns c =
 
 pub word-at-spec : {M : Type 1} → statement M
 word-at-spec =
-    tie.close (tie.spec desk-from-requires add-result mul-result element-copy-out-result returns)
+    tie.close (tie.spec (λ c κs. search needs) (λ c. search needs) (λ c. search needs) (λ c. search needs) returns)

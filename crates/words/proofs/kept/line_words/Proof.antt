@@ -18,29 +18,8 @@ Inv-loop force count len places present words₀ i₀ words i = (i ≤ present) 
 abbrev μ-loop : tie.MeasureT-loop
 μ-loop force count len places present words₀ i₀ words i = present - i
 
-fitting-requires : tie.Need-fitting-requires Inv-loop μ-loop
-fitting-requires c κs = search needs
-
-emptied-words-requires : tie.Need-emptied-words-requires Inv-loop μ-loop
-emptied-words-requires c κs = search needs
-
 loop-holds : tie.Need-loop-holds Inv-loop μ-loop
 loop-holds c = (omega arith, omega arith, c .emptied-words .ensures)
-
-mul-insert : tie.Need-mul-insert Inv-loop μ-loop
-mul-insert c = omega arith
-
-array-copy-out-insert : tie.Need-array-copy-out-insert Inv-loop μ-loop
-array-copy-out-insert c = omega arith
-
-insert-requires : tie.Need-insert-requires Inv-loop μ-loop
-insert-requires c κs = search needs
-
-add-i : tie.Need-add-i Inv-loop μ-loop
-add-i c = omega arith
-
-loop-less : tie.Need-loop-less Inv-loop μ-loop
-loop-less c = omega arith
 
 loop-again : tie.Need-loop-again Inv-loop μ-loop
 loop-again c =
@@ -65,13 +44,13 @@ line-words-spec =
     (tie.spec
     Inv-loop
     μ-loop
-    fitting-requires
-    emptied-words-requires
+    (λ c κs. search needs)
+    (λ c κs. search needs)
     loop-holds
-    mul-insert
-    array-copy-out-insert
-    insert-requires
-    add-i
-    loop-less
+    (λ c. omega arith)
+    (λ c. omega arith)
+    (λ c κs. search needs)
+    (λ c. omega arith)
+    (λ c. omega arith)
     loop-again
     returns)

@@ -21,30 +21,9 @@ Inv-loop words present places₀ i₀ places i = (i ≤ present) × (present ≡
 abbrev μ-loop : tie.MeasureT-loop
 μ-loop words present places₀ i₀ places i = present - i
 
-present-in-requires : tie.Need-present-in-requires Inv-loop μ-loop
-present-in-requires c κs = search needs
-
-unused-requires : tie.Need-unused-requires Inv-loop μ-loop
-unused-requires c κs = search needs
-
 loop-holds : tie.Need-loop-holds Inv-loop μ-loop
 unfolding padTo
 loop-holds c = (omega arith, c .before .present-in .ensures, rw (c .unused .ensures))
-
-at-place-requires : tie.Need-at-place-requires Inv-loop μ-loop
-at-place-requires c κs = omega arith
-
-mul-places : tie.Need-mul-places Inv-loop μ-loop
-mul-places c = omega arith
-
-array-set-from-places : tie.Need-array-set-from-places Inv-loop μ-loop
-array-set-from-places c = omega arith
-
-add-i : tie.Need-add-i Inv-loop μ-loop
-add-i c = omega arith
-
-loop-less : tie.Need-loop-less Inv-loop μ-loop
-loop-less c = omega arith
 
 loop-again : tie.Need-loop-again Inv-loop μ-loop
 loop-again c =
@@ -64,13 +43,13 @@ places-in-spec =
     (tie.spec
     Inv-loop
     μ-loop
-    present-in-requires
-    unused-requires
+    (λ c κs. search needs)
+    (λ c κs. search needs)
     loop-holds
-    at-place-requires
-    mul-places
-    array-set-from-places
-    add-i
-    loop-less
+    (λ c κs. omega arith)
+    (λ c. omega arith)
+    (λ c. omega arith)
+    (λ c. omega arith)
+    (λ c. omega arith)
     loop-again
     returns)

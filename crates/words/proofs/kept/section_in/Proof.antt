@@ -5,24 +5,6 @@ use Rattle.words.proofs.kept.section_in.Tie as tie
 use Rattle.words.specs.Words.{sectionIn}
 use borrow.Author.Needs.{needs}
 
-places-in-requires : tie.Need-places-in-requires
-places-in-requires c κs = search needs
-
-present-requires : tie.Need-present-requires
-present-requires c κs = search needs
-
-in-force-requires : tie.Need-in-force-requires
-in-force-requires c κs = search needs
-
-refused-requires : tie.Need-refused-requires
-refused-requires c κs = search needs
-
-desk-requires : tie.Need-desk-requires
-desk-requires c κs = search needs
-
-desk-requires-2 : tie.Need-desk-requires-2
-desk-requires-2 c κs = search needs
-
 returns : tie.Need-returns
 unfolding sectionIn
 returns c =
@@ -37,10 +19,10 @@ pub section-in-spec : {M : Type 1} → statement M
 section-in-spec =
     tie.close
     (tie.spec
-    places-in-requires
-    present-requires
-    in-force-requires
-    refused-requires
-    desk-requires
-    desk-requires-2
+    (λ c κs. search needs)
+    (λ c κs. search needs)
+    (λ c κs. search needs)
+    (λ c κs. search needs)
+    (λ c κs. search needs)
+    (λ c κs. search needs)
     returns)

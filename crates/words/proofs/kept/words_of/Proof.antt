@@ -6,15 +6,6 @@ use Rattle.words.proofs.kept.words_of.Tie as tie
 use Rattle.working.specs.declared.Station.the-variants.{A, B}
 use borrow.Author.Needs.{needs}
 
-line-words-requires : tie.Need-line-words-requires
-line-words-requires c κs = search needs
-
-put-desk-requires : tie.Need-put-desk-requires
-put-desk-requires c κs = search needs
-
-put-desk-requires-2 : tie.Need-put-desk-requires-2
-put-desk-requires-2 c κs = search needs
-
 returns : tie.Need-returns
 returns c =
     let first = c .before .before in
@@ -24,4 +15,4 @@ returns c =
 
 pub words-of-spec : {M : Type 1} → statement M
 words-of-spec =
-    tie.close (tie.spec line-words-requires put-desk-requires put-desk-requires-2 returns)
+    tie.close (tie.spec (λ c κs. search needs) (λ c κs. search needs) (λ c κs. search needs) returns)

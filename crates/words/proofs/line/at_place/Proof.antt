@@ -8,15 +8,6 @@ use Rattle.words.specs.Words.{ringIn, slots, vehicleAt}
 use borrow.Author.Needs.{needs}
 use mathlib.Core.Path.{_∙_, ap, sym}
 
-start-in-requires : tie.Need-start-in-requires
-start-in-requires c κs = search needs
-
-slot-of-requires : tie.Need-slot-of-requires
-slot-of-requires c κs = search needs
-
-vehicle-at-requires : tie.Need-vehicle-at-requires
-vehicle-at-requires c κs = search needs
-
 returns : tie.Need-returns
 returns c =
     let slot = c .before in
@@ -27,4 +18,4 @@ returns c =
     c .vehicle-at .ensures ∙ ap (vehicleAt (ringIn w)) there ∙ sym (line-at w (a .i) (start .before .pre))
 
 pub at-place-spec : {M : Type 1} → statement M
-at-place-spec = tie.close (tie.spec start-in-requires slot-of-requires vehicle-at-requires returns)
+at-place-spec = tie.close (tie.spec (λ c κs. search needs) (λ c κs. search needs) (λ c κs. search needs) returns)

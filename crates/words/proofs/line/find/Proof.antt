@@ -19,17 +19,8 @@ Inv-loop words sender form present i₀ i = (i ≤ present) × (present ≡ pres
 abbrev μ-loop : tie.MeasureT-loop
 μ-loop words sender form present i₀ i = present - i
 
-present-in-requires : tie.Need-present-in-requires Inv-loop μ-loop
-present-in-requires c κs = search needs
-
 loop-holds : tie.Need-loop-holds Inv-loop μ-loop
 loop-holds c = (omega arith, c .present-in .ensures, omega arith)
-
-at-place-requires : tie.Need-at-place-requires Inv-loop μ-loop
-at-place-requires c κs = omega arith
-
-is-named-requires : tie.Need-is-named-requires Inv-loop μ-loop
-is-named-requires c κs = search needs
 
 returns : tie.Need-returns Inv-loop μ-loop
 returns c =
@@ -39,12 +30,6 @@ returns c =
     let line = lineIn (a .words .now) in
     let named : isNamed (a .sender) (a .form) (getD line (l .i) unused) ≡ true = ap (isNamed (a .sender) (a .form)) (sym (here .at-place .ensures)) ∙ sym (c .before .is-named .ensures) ∙ c .if1 .taken in
     (omega (arith, find-on (a .sender) (a .form) line (l .i) (omega (arith, line-length (a .words .now))) named), omega arith)
-
-add-i : tie.Need-add-i Inv-loop μ-loop
-add-i c = omega arith
-
-loop-less : tie.Need-loop-less Inv-loop μ-loop
-loop-less c = omega arith
 
 loop-again : tie.Need-loop-again Inv-loop μ-loop
 loop-again c =
@@ -67,12 +52,12 @@ find-spec =
     (tie.spec
     Inv-loop
     μ-loop
-    present-in-requires
+    (λ c κs. search needs)
     loop-holds
-    at-place-requires
-    is-named-requires
+    (λ c κs. omega arith)
+    (λ c κs. search needs)
     returns
-    add-i
-    loop-less
+    (λ c. omega arith)
+    (λ c. omega arith)
     loop-again
     returns-2)

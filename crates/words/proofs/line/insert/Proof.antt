@@ -5,18 +5,6 @@ use Rattle.words.proofs.line.insert.Statement.{statement}
 use Rattle.words.proofs.line.insert.Tie as tie
 use borrow.Author.Needs.{needs}
 
-present-in-requires : tie.Need-present-in-requires
-present-in-requires c κs = search needs
-
-add-words : tie.Need-add-words
-add-words c = search needs
-
-element-write-words : tie.Need-element-write-words
-element-write-words c = search needs
-
-entering-slot-requires : tie.Need-entering-slot-requires
-entering-slot-requires c κs = search needs
-
 put-vehicle-requires : tie.Need-put-vehicle-requires
 put-vehicle-requires c κs = c .before .entering-slot .ensures .inside
 
@@ -31,9 +19,9 @@ pub insert-spec : {M : Type 1} → statement M
 insert-spec =
     tie.close
     (tie.spec
-    present-in-requires
-    add-words
-    element-write-words
-    entering-slot-requires
+    (λ c κs. search needs)
+    (λ c. search needs)
+    (λ c. search needs)
+    (λ c κs. search needs)
     put-vehicle-requires
     returns)

@@ -12,31 +12,10 @@ use mathlib.Core.Bool.{and-assoc, and-true}
 use mathlib.Core.Path.{_≡_}
 use native.Mathlib.Omega.{arith}
 
-present-in-requires : tie.Need-present-in-requires
-present-in-requires c κs = search needs
-
-add-if1 : tie.Need-add-if1
-add-if1 c = search needs
-
 returns : tie.Need-returns
 returns c =
     let a = c .before .before .args in
     rw (le-ltb (a .i + 1) (length (lineIn (a .words .now))) (omega (arith, line-length (a .words .now))))
-
-at-place-requires : tie.Need-at-place-requires
-at-place-requires c κs = search needs
-
-add-at-place : tie.Need-add-at-place
-add-at-place c = search needs
-
-at-place-requires-2 : tie.Need-at-place-requires-2
-at-place-requires-2 c κs = search needs
-
-is-opener-requires : tie.Need-is-opener-requires
-is-opener-requires c κs = search needs
-
-is-opener-requires-2 : tie.Need-is-opener-requires-2
-is-opener-requires-2 c κs = search needs
 
 returns-2 : tie.Need-returns-2
 returns-2 c =
@@ -51,12 +30,12 @@ pub may-meet-spec : {M : Type 1} → statement M
 may-meet-spec =
     tie.close
     (tie.spec
-    present-in-requires
-    add-if1
+    (λ c κs. search needs)
+    (λ c. search needs)
     returns
-    at-place-requires
-    add-at-place
-    at-place-requires-2
-    is-opener-requires
-    is-opener-requires-2
+    (λ c κs. search needs)
+    (λ c. search needs)
+    (λ c κs. search needs)
+    (λ c κs. search needs)
+    (λ c κs. search needs)
     returns-2)

@@ -43,9 +43,6 @@ still-in c =
     let l = lineOf (sectionIn w) in
     omega (arith, both-in (c .before .before), present-of (c .put-met .last .0), ap (λ s. s .len) (c .put-met .ensures .section), turn-length (a .to) (first .find .result) l, ap length (line-of w), line-length w)
 
-find-requires : tie.Need-find-requires
-find-requires c κs = search needs
-
 may-meet-requires : tie.Need-may-meet-requires
 may-meet-requires c κs = c .before .find .ensures .1
 
@@ -84,7 +81,7 @@ pub meet-spec : {M : Type 1} → statement M
 meet-spec =
     tie.close
     (tie.spec
-    find-requires
+    (λ c κs. search needs)
     may-meet-requires
     put-met-requires
     add-put-met

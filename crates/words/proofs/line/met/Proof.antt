@@ -4,11 +4,8 @@ use Rattle.words.proofs.line.met.Statement.{statement}
 use Rattle.words.proofs.line.met.Tie as tie
 use borrow.Author.Needs.{needs}
 
-station-number-requires : tie.Need-station-number-requires
-station-number-requires c κs = search needs
-
 returns : tie.Need-returns
 returns c = rw (c .station-number .ensures)
 
 pub met-spec : {M : Type 1} → statement M
-met-spec = tie.close (tie.spec station-number-requires returns)
+met-spec = tie.close (tie.spec (λ c κs. search needs) returns)

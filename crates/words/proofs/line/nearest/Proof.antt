@@ -11,32 +11,11 @@ use lib.ListN.{getD, length}
 use mathlib.Core.Path.{_∙_, _≡_, ap, sym}
 use native.Mathlib.Omega.{arith}
 
-present-in-requires : tie.Need-present-in-requires
-present-in-requires c κs = search needs
-
-unused-requires : tie.Need-unused-requires
-unused-requires c κs = search needs
-
 returns : tie.Need-returns
 returns c =
     let a = c .before .before .before .args in
     let w = a .words .now in
     rw (line-of w) (c .unused .ensures ∙ sym (near-none (a .at) (lineIn w) (omega (arith, line-length w))))
-
-enum-told : tie.Need-enum-told
-enum-told c = search needs
-
-at-place-requires : tie.Need-at-place-requires
-at-place-requires c κs = search needs
-
-enum-told-2 : tie.Need-enum-told-2
-enum-told-2 c = search needs
-
-sub-at-place : tie.Need-sub-at-place
-sub-at-place c = search needs
-
-at-place-requires-2 : tie.Need-at-place-requires-2
-at-place-requires-2 c κs = search needs
 
 returns-2 : tie.Need-returns-2
 returns-2 c =
@@ -55,13 +34,13 @@ pub nearest-spec : {M : Type 1} → statement M
 nearest-spec =
     tie.close
     (tie.spec
-    present-in-requires
-    unused-requires
+    (λ c κs. search needs)
+    (λ c κs. search needs)
     returns
-    enum-told
-    at-place-requires
-    enum-told-2
-    sub-at-place
-    at-place-requires-2
+    (λ c. search needs)
+    (λ c κs. search needs)
+    (λ c. search needs)
+    (λ c. search needs)
+    (λ c κs. search needs)
     returns-2
     returns-3)

@@ -10,39 +10,6 @@ use borrow.Author.Needs.{needs}
 use lib.ListN.{length, set}
 use mathlib.Core.Path.{_∙_, _≡_, ap}
 
-present-in-requires : tie.Need-present-in-requires
-present-in-requires c κs = search needs
-
-start-in-requires : tie.Need-start-in-requires
-start-in-requires c κs = search needs
-
-slot-of-requires : tie.Need-slot-of-requires
-slot-of-requires c κs = search needs
-
-vehicle-at-requires : tie.Need-vehicle-at-requires
-vehicle-at-requires c κs = search needs
-
-met-requires : tie.Need-met-requires
-met-requires c κs = search needs
-
-element-write-words : tie.Need-element-write-words
-element-write-words c = search needs
-
-first-word-requires : tie.Need-first-word-requires
-first-word-requires c κs = search needs
-
-mul-words : tie.Need-mul-words
-mul-words c = search needs
-
-add-words : tie.Need-add-words
-add-words c = search needs
-
-mul-words-2 : tie.Need-mul-words-2
-mul-words-2 c = search needs
-
-element-write-words-2 : tie.Need-element-write-words-2
-element-write-words-2 c = search needs
-
 returns : tie.Need-returns
 returns c =
     let met = c .before in
@@ -62,15 +29,15 @@ pub put-met-spec : {M : Type 1} → statement M
 put-met-spec =
     tie.close
     (tie.spec
-    present-in-requires
-    start-in-requires
-    slot-of-requires
-    vehicle-at-requires
-    met-requires
-    element-write-words
-    first-word-requires
-    mul-words
-    add-words
-    mul-words-2
-    element-write-words-2
+    (λ c κs. search needs)
+    (λ c κs. search needs)
+    (λ c κs. search needs)
+    (λ c κs. search needs)
+    (λ c κs. search needs)
+    (λ c. search needs)
+    (λ c κs. search needs)
+    (λ c. search needs)
+    (λ c. search needs)
+    (λ c. search needs)
+    (λ c. search needs)
     returns)

@@ -8,21 +8,6 @@ use Rattle.words.specs.Words.{VehiclePut}
 use borrow.Author.Needs.{needs}
 use mathlib.Core.Path.{_∙_, ap}
 
-present-in-requires : tie.Need-present-in-requires
-present-in-requires c κs = search needs
-
-fewer-requires : tie.Need-fewer-requires
-fewer-requires c κs = search needs
-
-element-write-words : tie.Need-element-write-words
-element-write-words c = search needs
-
-leaving-slot-requires : tie.Need-leaving-slot-requires
-leaving-slot-requires c κs = search needs
-
-unused-requires : tie.Need-unused-requires
-unused-requires c κs = search needs
-
 put-vehicle-requires : tie.Need-put-vehicle-requires
 put-vehicle-requires c κs = c .before .before .leaving-slot .ensures .inside
 
@@ -38,10 +23,10 @@ pub remove-spec : {M : Type 1} → statement M
 remove-spec =
     tie.close
     (tie.spec
-    present-in-requires
-    fewer-requires
-    element-write-words
-    leaving-slot-requires
-    unused-requires
+    (λ c κs. search needs)
+    (λ c κs. search needs)
+    (λ c. search needs)
+    (λ c κs. search needs)
+    (λ c κs. search needs)
     put-vehicle-requires
     returns)

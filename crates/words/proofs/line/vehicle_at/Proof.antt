@@ -8,33 +8,6 @@ use borrow.Author.Needs.{needs}
 use lib.Seq.{getD-drop}
 use mathlib.Core.Path.{_∙_, ap₂, sym}
 
-mul-first : tie.Need-mul-first
-mul-first c = search needs
-
-add-vehicle-in : tie.Need-add-vehicle-in
-add-vehicle-in c = search needs
-
-mul-vehicle-in : tie.Need-mul-vehicle-in
-mul-vehicle-in c = search needs
-
-element-copy-out-vehicle-in : tie.Need-element-copy-out-vehicle-in
-element-copy-out-vehicle-in c = search needs
-
-add-vehicle-in-2 : tie.Need-add-vehicle-in-2
-add-vehicle-in-2 c = search needs
-
-add-vehicle-in-3 : tie.Need-add-vehicle-in-3
-add-vehicle-in-3 c = search needs
-
-mul-vehicle-in-2 : tie.Need-mul-vehicle-in-2
-mul-vehicle-in-2 c = search needs
-
-element-copy-out-vehicle-in-2 : tie.Need-element-copy-out-vehicle-in-2
-element-copy-out-vehicle-in-2 c = search needs
-
-vehicle-in-requires : tie.Need-vehicle-in-requires
-vehicle-in-requires c κs = search needs
-
 returns : tie.Need-returns
 returns c =
     let a = c .before .before .before .args in
@@ -45,13 +18,13 @@ pub vehicle-at-spec : {M : Type 1} → statement M
 vehicle-at-spec =
     tie.close
     (tie.spec
-    mul-first
-    add-vehicle-in
-    mul-vehicle-in
-    element-copy-out-vehicle-in
-    add-vehicle-in-2
-    add-vehicle-in-3
-    mul-vehicle-in-2
-    element-copy-out-vehicle-in-2
-    vehicle-in-requires
+    (λ c. search needs)
+    (λ c. search needs)
+    (λ c. search needs)
+    (λ c. search needs)
+    (λ c. search needs)
+    (λ c. search needs)
+    (λ c. search needs)
+    (λ c. search needs)
+    (λ c κs. search needs)
     returns)

@@ -7,12 +7,6 @@ use Prim.Native.Nat.{_%_}
 use borrow.Author.Needs.{needs}
 use native.Mathlib.Omega.{arith}
 
-cast-granted : tie.Need-cast-granted
-cast-granted c = search needs
-
-cast-asked : tie.Need-cast-asked
-cast-asked c = search needs
-
 returns : tie.Need-returns
 returns c = rw (c .if1 .taken)
 
@@ -27,4 +21,4 @@ returns-4 c = left-train (c .before .before .before .args .second % 256) (omega 
 
 pub movement-in-spec : {M : Type 1} → statement M
 movement-in-spec =
-    tie.close (tie.spec cast-granted cast-asked returns returns-2 returns-3 returns-4)
+    tie.close (tie.spec (λ c. search needs) (λ c. search needs) returns returns-2 returns-3 returns-4)

@@ -4,30 +4,6 @@ use Rattle.words.proofs.vehicles.second_word.Statement.{statement}
 use Rattle.words.proofs.vehicles.second_word.Tie as tie
 use borrow.Author.Needs.{needs}
 
-enum-known-movement : tie.Need-enum-known-movement
-enum-known-movement c = search needs
-
-packed-requires : tie.Need-packed-requires
-packed-requires c κs = search needs
-
-enum-told : tie.Need-enum-told
-enum-told c = search needs
-
-packed-requires-2 : tie.Need-packed-requires-2
-packed-requires-2 c κs = search needs
-
-enum-known-movement-2 : tie.Need-enum-known-movement-2
-enum-known-movement-2 c = search needs
-
-packed-requires-3 : tie.Need-packed-requires-3
-packed-requires-3 c κs = search needs
-
-enum-known-movement-3 : tie.Need-enum-known-movement-3
-enum-known-movement-3 c = search needs
-
-packed-requires-4 : tie.Need-packed-requires-4
-packed-requires-4 c κs = search needs
-
 returns : tie.Need-returns
 returns c = rw (c .before .before .movement .given .1) (c .packed .ensures)
 
@@ -44,14 +20,14 @@ pub second-word-spec : {M : Type 1} → statement M
 second-word-spec =
     tie.close
     (tie.spec
-    enum-known-movement
-    packed-requires
-    enum-told
-    packed-requires-2
-    enum-known-movement-2
-    packed-requires-3
-    enum-known-movement-3
-    packed-requires-4
+    (λ c. search needs)
+    (λ c κs. search needs)
+    (λ c. search needs)
+    (λ c κs. search needs)
+    (λ c. search needs)
+    (λ c κs. search needs)
+    (λ c. search needs)
+    (λ c κs. search needs)
     returns
     returns-2
     returns-3

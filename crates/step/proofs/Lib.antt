@@ -7,5 +7,4 @@ pub mod LastLine
 pub mod Next
 pub mod Own
 pub mod Room
-pub mod Said
 pub mod Whole

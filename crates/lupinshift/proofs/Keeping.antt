@@ -1,12 +1,12 @@
--- Words copied, one run behind another, are the runs in a row before what was behind them: `stored`. Words so stored stand for the listing that they were made of: `holds`.
+-- The section's words copied, and five numbers behind them, stand in a row before what was behind them: `stored`. Words so stored stand for the listing that they were made of: `holds`.
 -- A call with too few words, and one with enough: `begins-none`, `begins`, `fills-none`, `fills`.
 -- Assumes nothing.
 use Prim.Native.Nat.{_+_, _<_, _≤_, ℕ}
 use Rattle.lupinshift.specs.State.{Begins, FillsOn, Holds, listingAt, stateWords}
-use Rattle.step.specs.Lines.{Fills, begun}
-use Rattle.step.specs.declared.blocks.Filled.{Filled}
+use Rattle.step.specs.Lines.{FillsIn, begun, listingIn}
+use Rattle.step.specs.declared.lines.Listed.{Listed}
 use Rattle.step.specs.declared.lines.Listing.{Listing}
-use Rattle.words.specs.Words.{sectionIn}
+use Rattle.words.specs.Words.{sectionIn, wordCount}
 use Rattle.working.specs.Entries.{pasted}
 use Rattle.working.specs.WellMade.{oneIf}
 use borrow.Author.Tests.{ltb-false, ltb-true}
@@ -37,19 +37,17 @@ paste-on head words run n m size e =
     sym (drop-drop (length run) n (head ++ drop n words)) ∙ ap (drop (length run)) (drop-at head (drop n words) n size) ∙ drop-drop (length run) n words ∙ ap (λ (k : ℕ). drop k words) e in
     rw (take-at head (drop n words) n size, behind) (sym (append-assoc head run (drop m words)))
 
-pub stored : (words line figures : List ℕ) (at left entries accepted ended : ℕ) → length line ≡ 24 → length figures ≡ 21 → stateWords ≤ length words
-    → set (set (set (set (set (pasted (pasted words 0 (take 24 (drop 0 line))) 24 (take 21 (drop 0 figures))) 45 at) 46 left) 47 entries) 48 accepted) 49 ended
-    ≡ ((line ++ figures) ++ (at ∷ left ∷ entries ∷ accepted ∷ ended ∷ [])) ++ drop 50 words
-stored words line figures at left entries accepted ended l f room =
+pub stored : (words section : List ℕ) (at left entries accepted ended : ℕ) → length section ≡ wordCount → stateWords ≤ length words
+    → set (set (set (set (set (pasted words 0 (take wordCount (drop 0 section))) 86 at) 87 left) 88 entries) 89 accepted) 90 ended
+    ≡ (section ++ (at ∷ left ∷ entries ∷ accepted ∷ ended ∷ [])) ++ drop stateWords words
+stored words section at left entries accepted ended size room =
     let numbers : List ℕ = at ∷ left ∷ entries ∷ accepted ∷ ended ∷ [] in
-    let head : length (line ++ figures) ≡ 45 = length-append line figures ∙ omega arith in
-    let first : pasted words 0 line ≡ line ++ drop 24 words = paste-on [] words line 0 24 refl (omega arith) in
-    let second : pasted (line ++ drop 24 words) 24 figures ≡ (line ++ figures) ++ drop 45 words = paste-on line words figures 24 45 l (omega arith) in
-    let size : 45 + length numbers ≤ length ((line ++ figures) ++ drop 45 words) = simp (length-append, length-drop) (omega arith) in
-    rw (take-all 24 line (omega arith), take-all 21 figures (omega arith), first, second)
-    (sets-eq numbers ((line ++ figures) ++ drop 45 words) 45 size
-    ∙ append-assoc (take 45 ((line ++ figures) ++ drop 45 words)) numbers (drop 50 ((line ++ figures) ++ drop 45 words))
-    ∙ paste-on (line ++ figures) words numbers 45 50 head refl)
+    let first : pasted words 0 section ≡ section ++ drop wordCount words = paste-on [] words section 0 wordCount refl (omega arith) in
+    let long : wordCount + length numbers ≤ length (section ++ drop wordCount words) = simp (length-append, length-drop) (omega arith) in
+    rw (take-all wordCount section (omega arith), first)
+    (sets-eq numbers (section ++ drop wordCount words) wordCount long
+    ∙ append-assoc (take wordCount (section ++ drop wordCount words)) numbers (drop stateWords (section ++ drop wordCount words))
+    ∙ paste-on section words numbers wordCount stateWords size refl)
 
 -- ---- what they stand for
 
@@ -57,22 +55,20 @@ one-back : (b : Bool) → eqb (oneIf b) 1 ≡ b
 one-back true = refl
 one-back false = refl
 
-pub holds : (l : Listing) (words line figures after : List ℕ) → length line ≡ 24 → length figures ≡ 21 → stateWords ≤ length words → sectionIn line figures ≡ l .section
-    → after ≡ ((line ++ figures) ++ (l .at ∷ l .left ∷ l .entries ∷ l .accepted ∷ oneIf (l .ended) ∷ [])) ++ drop 50 words → Holds l words after
+pub holds : (l : Listed) (words section after : List ℕ) → length section ≡ wordCount → stateWords ≤ length words
+    → after ≡ (section ++ (l .at ∷ l .left ∷ l .entries ∷ l .accepted ∷ oneIf (l .ended) ∷ [])) ++ drop stateWords words → Holds (listingIn l (sectionIn section)) words after
 unfolding listingAt
-holds l words line figures after line-long figures-long room same e =
+holds l words section after size room e =
     let numbers : List ℕ = l .at ∷ l .left ∷ l .entries ∷ l .accepted ∷ oneIf (l .ended) ∷ [] in
-    let rest : List ℕ = numbers ++ drop 50 words in
-    let shape : after ≡ line ++ (figures ++ rest) = e ∙ append-assoc (line ++ figures) numbers (drop 50 words) ∙ append-assoc line figures rest in
-    let places : take 24 after ≡ line = rw shape (take-at line (figures ++ rest) 24 line-long) in
-    let others : drop 24 after ≡ figures ++ rest = rw shape (drop-at line (figures ++ rest) 24 line-long) in
-    let figured : take 21 (drop 24 after) ≡ figures = rw others (take-at figures rest 21 figures-long) in
-    let behind : drop 45 after ≡ rest = sym (drop-drop 21 24 after) ∙ rw others (drop-at figures rest 21 figures-long) in
-    let number : (k : ℕ) → getD after (45 + k) 0 ≡ getD rest k 0 = λ k. sym (getD-drop 45 after k 0) ∙ ap (λ (x : List ℕ). getD x k 0) behind in
+    let rest : List ℕ = numbers ++ drop stateWords words in
+    let shape : after ≡ section ++ rest = e ∙ append-assoc section numbers (drop stateWords words) in
+    let front : take wordCount after ≡ section = rw shape (take-at section rest wordCount size) in
+    let behind : drop wordCount after ≡ rest = rw shape (drop-at section rest wordCount size) in
+    let number : (k : ℕ) → getD after (wordCount + k) 0 ≡ getD rest k 0 = λ k. sym (getD-drop wordCount after k 0) ∙ ap (λ (x : List ℕ). getD x k 0) behind in
     record {
-      listing = rw (places, figured, same, number 0, number 1, number 2, number 3, number 4, one-back (l .ended));
+      listing = rw (front, number 0, number 1, number 2, number 3, number 4, one-back (l .ended));
       size = ap length shape ∙ simp (length-append, length-drop) (omega arith);
-      behind = sym (drop-drop 5 45 after) ∙ ap (drop 5) behind;
+      behind = sym (drop-drop 5 wordCount after) ∙ ap (drop 5) behind;
     }
 
 -- ---- the calls
@@ -91,6 +87,6 @@ fills-none {words} few = record {
   state = λ e. absurd (omega (arith, ltb-false (length words) stateWords e));
 }
 
-pub fills : {words log out words₁ out₁ : List ℕ} {r : Filled} → stateWords ≤ length words → Fills log (listingAt words) out r out₁ → Holds (r .listing) words words₁
-    → FillsOn words log out (r .count) words₁ out₁
-fills {words} enough f h = record { short = λ e. absurd (omega (arith, ltb-true (length words) stateWords e)); count = λ e. f .count; left = λ e. f .left; state = λ e. rw (f .listing) at h }
+pub fills : {words log out words₁ out₁ : List ℕ} {count : ℕ} {l : Listing} → stateWords ≤ length words → FillsIn log (listingAt words) out count l out₁ → Holds l words words₁
+    → FillsOn words log out count words₁ out₁
+fills {words} enough f h = record { short = λ e. absurd (omega (arith, ltb-true (length words) stateWords e)); count = λ e. f .counted; left = λ e. f .left; state = λ e. rw (f .listing) at h }

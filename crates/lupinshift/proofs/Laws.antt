@@ -1,4 +1,4 @@
--- A call that is refused and one that is not, by the test that tells: `gives-none`, `gives`. A run from the fresh section is the log's: `from-fresh`.
+-- A call that is refused and one that is not, by the test that tells: `gives-none`, `gives`.
 -- A buffer with the room of a listing, filled once from the start, holds the listing: `lists`. The last line put alone at the front of a buffer: `ends`.
 -- Assumes nothing.
 use Prim.Native.Nat.{_<_, _≤_, ℕ}
@@ -6,15 +6,14 @@ use Rattle.listing.specs.LineText.{PutsLine, endFigures, lastLine, longestLine}
 use Rattle.lupinshift.specs.Answers.{Ends, Gives, Lists, endOf}
 use Rattle.step.proofs.Room.{listing-fits}
 use Rattle.step.proofs.Whole.{room-for-all}
-use Rattle.step.specs.Lines.{Fills, begun, largestCount}
+use Rattle.step.specs.Lines.{FillsIn, begun, largestCount}
 use Rattle.step.specs.Listings.{listingRoom}
-use Rattle.step.specs.Running.{ranOver}
-use Rattle.step.specs.declared.blocks.Filled.{Filled}
-use Rattle.step.specs.declared.running.Ran.{Ran}
+use Rattle.step.specs.Running.{endOver}
+use Rattle.step.specs.declared.lines.Listing.{Listing}
+use Rattle.step.specs.declared.running.LogEnd.{LogEnd}
 use Rattle.working.specs.Entries.{pasted}
 use Rattle.working.specs.Sections.{fresh}
 use Rattle.working.specs.Turns.{turnsOf}
-use Rattle.working.specs.declared.Section.{Section}
 use borrow.Author.Tests.{le-leb, le-ltb, lt-leb, ltb-false, ltb-true}
 use lib.Dec.{ltb}
 use lib.ListN.{length}
@@ -31,24 +30,20 @@ gives-none e = record { count = rw e; left = rw e }
 pub gives : {refused : Bool} {given buffer after : List ℕ} {r : ℕ} → refused ≡ false → r ≡ length given → after ≡ pasted buffer 0 given → Gives refused given buffer r after
 gives e count left = record { count = rw e count; left = rw e left }
 
--- the run of a whole log from a section that is the fresh one
-pub from-fresh : (log : List ℕ) {s : Section} {r : Ran} → r ≡ ranOver s (turnsOf s log) → s ≡ fresh → r ≡ ranOver fresh (turnsOf fresh log)
-from-fresh log e f = e ∙ ap (λ (s : Section). ranOver s (turnsOf s log)) f
-
 -- a buffer that was filled once, from the start, and has the room
-pub lists : {log out after : List ℕ} {filled : Filled} → length log < largestCount → listingRoom (length log) ≤ length out → Fills log (begun log) out filled after
-    → Lists log out (filled .count) after
+pub lists : {log out after : List ℕ} {count : ℕ} {l : Listing} → length log < largestCount → listingRoom (length log) ≤ length out → FillsIn log (begun log) out count l after
+    → Lists log out count after
 lists {log} {out} short room f =
     let whole = room-for-all log (length out) short (omega (arith, listing-fits log)) .0 in
-    gives (le-ltb _ _ room) (f .count ∙ ap length whole) (f .left ∙ ap (pasted out 0) whole)
+    gives (le-ltb _ _ room) (f .counted ∙ ap length whole) (f .left ∙ ap (pasted out 0) whole)
 
 -- the last line of a run put at the front of a buffer, or not
-pub ends : (log : List ℕ) {out after : List ℕ} {r : Ran} {behind : ℕ} → r ≡ ranOver fresh (turnsOf fresh log)
+pub ends : (log : List ℕ) {out after : List ℕ} {r : LogEnd} {behind : ℕ} → r ≡ endOver fresh (turnsOf fresh log)
     → PutsLine out 0 (lastLine (length log) (endFigures (r .entries) (r .accepted) (r .section))) behind after → Ends log out behind after
 ends log {out} {after} {r} {behind} e put = by (ltb (length out) longestLine) refl
   where
     line : lastLine (length log) (endFigures (r .entries) (r .accepted) (r .section)) ≡ endOf log
-    line = ap (λ (r : Ran). lastLine (length log) (endFigures (r .entries) (r .accepted) (r .section))) e
+    line = ap (λ (r : LogEnd). lastLine (length log) (endFigures (r .entries) (r .accepted) (r .section))) e
 
     by : (b : Bool) → ltb (length out) longestLine ≡ b → Ends log out behind after
     by true short =

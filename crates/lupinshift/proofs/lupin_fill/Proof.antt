@@ -3,41 +3,30 @@
 use Rattle.lupinshift.proofs.Keeping.{fills, fills-none}
 use Rattle.lupinshift.proofs.lupin_fill.Statement.{statement}
 use Rattle.lupinshift.proofs.lupin_fill.Tie as tie
+use Rattle.lupinshift.specs.State.{listingAt}
 use borrow.Author.Needs.{needs}
 
 returns : tie.Need-returns
 returns c = fills-none (c .if1 .taken)
 
-listing-at-requires : tie.Need-listing-at-requires
-listing-at-requires c κs = search needs
-
-fill-requires : tie.Need-fill-requires
-fill-requires c κs = search needs
-
-keep-requires : tie.Need-keep-requires
-keep-requires c κs = search needs
-
-same-length : tie.Need-same-length
-same-length c = search needs
-
-same-length-2 : tie.Need-same-length-2
-same-length-2 c = search needs
-
 returns-2 : tie.Need-returns-2
+unfolding listingAt
 returns-2 c =
     let keep = c .before .before in
-    let fill = keep .before .before .before .before .before in
-    let at = fill .before .before in
-    fills (at .before .before .if1 .left) (rw (at .listing-at .ensures) at (fill .fill .ensures)) (keep .keep .ensures)
+    let filled = keep .before .before .before .before .before .before in
+    let listed = filled .before .before in
+    let section = listed .before .before .before in
+    fills (section .before .before .if1 .left) (rw (listed .listed-at .ensures, section .section-words .ensures) at (filled .fill-words .ensures)) (keep .keep .ensures)
 
 pub lupin-fill-spec : {M : Type 1} → statement M
 lupin-fill-spec =
     tie.close
     (tie.spec
     returns
-    listing-at-requires
-    fill-requires
-    keep-requires
-    same-length
-    same-length-2
+    (λ c κs. search needs)
+    (λ c κs. search needs)
+    (λ c κs. search needs)
+    (λ c κs. search needs)
+    (λ c. search needs)
+    (λ c. search needs)
     returns-2)

@@ -1,0 +1,129 @@
+//! The jobs, and the three programs that do them.
+
+use std::io::Write;
+use std::process::{Command, Stdio};
+
+use second::{Run, Section};
+
+use crate::shared::{figures_of, taken_of};
+
+/// The programs, in the order of a job's works.
+pub const PROGRAMS: [&str; 3] = ["proved", "second", "quick"];
+
+/// Work on a log, with a buffer that is lent again and again and never cleared;
+/// a number that depends on the whole of it.
+pub type Work = fn(&[u8], &mut [u8]) -> u64;
+
+/// One job in each program that does it.
+pub struct Job {
+    pub name: &'static str,
+    pub works: [Option<Work>; 3],
+    /// Whether each time a program is started.
+    pub starts: bool,
+}
+
+pub const JOBS: [Job; 4] = [
+    Job {
+        name: "read",
+        works: [
+            Some(|log, _| lupinshift::taken(log) as u64),
+            Some(|log, _| taken_of(log) as u64),
+            Some(|log, _| quick::taken(log) as u64),
+        ],
+        starts: false,
+    },
+    Job {
+        name: "run",
+        works: [
+            Some(|log, _| mixed(left(proved_figures(log)))),
+            Some(|log, _| mixed(left_in(&Run::new(log).finish()))),
+            Some(|log, _| mixed(left(quick::run(log)))),
+        ],
+        starts: false,
+    },
+    Job {
+        name: "listing",
+        works: [
+            Some(|log, out| lupinshift::list_into(log, out).expect("room") as u64),
+            Some(|log, _| second::list(log).len() as u64),
+            Some(|log, out| quick::list(log, out).expect("room") as u64),
+        ],
+        starts: false,
+    },
+    Job {
+        name: "lister",
+        works: [
+            Some(|log, _| listed_by("target/bin/lister", log)),
+            Some(|log, _| listed_by("second/target/release/lister", log)),
+            None,
+        ],
+        starts: true,
+    },
+];
+
+/// A buffer with room for any listing by any program.
+pub fn buffer() -> Vec<u8> {
+    let proved = lupinshift::listing_room(lupinshift::LONGEST_LOG);
+    vec![0; proved.max(quick::room(quick::LONGEST_LOG))]
+}
+
+/// The three programs agree on a log: entries taken, all figures, the listing.
+pub fn assert_agreed(log: &[u8], out: &mut [u8]) {
+    let taken = taken_of(log);
+    assert_eq!(lupinshift::taken(log), taken);
+    assert_eq!(quick::taken(log), taken);
+    let figures = figures_of(log);
+    assert_eq!(proved_figures(log), figures);
+    assert_eq!(quick::run(log), figures);
+    let listing = second::list(log);
+    let len = lupinshift::list_into(log, out).expect("room");
+    assert!(out[..len] == *listing.as_bytes());
+    let len = quick::list(log, out).expect("room");
+    assert!(out[..len] == *listing.as_bytes());
+}
+
+fn proved_figures(log: &[u8]) -> [u64; 8] {
+    lupinshift::figures(log).expect("a log that is not too long")
+}
+
+/// The figures but the numbers of entries and of those accepted, which the
+/// second program does not give with the section at the end.
+fn left(figures: [u64; 8]) -> [u64; 6] {
+    let [_, _, left @ ..] = figures;
+    left
+}
+
+/// The same from the section at the end.
+fn left_in(section: &Section) -> [u64; 6] {
+    let [a, b] = &section.desks;
+    [
+        section.refused.into(),
+        section.present as u64,
+        a.holds.into(),
+        a.owes.into(),
+        b.holds.into(),
+        b.owes.into(),
+    ]
+}
+
+/// One number of all.
+fn mixed(figures: [u64; 6]) -> u64 {
+    let next = |sum: u64, figure| sum.wrapping_mul(65_537).wrapping_add(figure);
+    figures.into_iter().fold(0, next)
+}
+
+/// A lister as a program: started, given the log, and waited for; the length of
+/// what it wrote.
+fn listed_by(program: &str, log: &[u8]) -> u64 {
+    let mut lister = Command::new(program)
+        .stdin(Stdio::piped())
+        .stdout(Stdio::piped())
+        .spawn()
+        .expect("bench/run builds the lister");
+    // The lister reads the whole log before it writes.
+    let mut input = lister.stdin.take().expect("a pipe");
+    input.write_all(log).expect("the lister reads");
+    drop(input);
+    let written = lister.wait_with_output().expect("the lister ends");
+    written.stdout.len() as u64
+}

@@ -69,7 +69,7 @@ pub const LONGEST_LINE: usize = 172;
 pub const FIGURES: usize = 8;
 
 /// How many numbers say where a listing in blocks stands.
-const STATE_WORDS: usize = 50;
+const STATE_WORDS: usize = 91;
 
 /// The block in which this wrapper takes a listing, in bytes.
 const BLOCK: usize = 16 * 1024;

@@ -104,10 +104,10 @@ fn put_vehicle(words: &mut Words, slot: usize, v: Vehicle)
     words[RING + (first + 1)] = second_word(movement);
 }
 
-// The slot at a station's end for a vehicle that enters beside `others`: at A's end the ring's start moves there.
-fn entering_slot(words: &mut Words, at: Station, others: usize) -> usize
-    requires { ⌜ others < slots ⌝ }
-    ensures { λ r. ⌜ StartMoved (now (words .entry)) (now (words .exit)) at oneBack r (endSlot at (startOn at (startIn (now (words .entry))) oneBack) others) ⌝ }
+// The slot for a vehicle that enters at a station's end: at A's end the ring's start moves there.
+fn entering_slot(words: &mut Words, at: Station, present: usize) -> usize
+    requires { ⌜ present < slots ⌝ }
+    ensures { λ r. ⌜ StartMoved (now (words .entry)) (now (words .exit)) at oneBack r (endSlot at (startOn at (startIn (now (words .entry))) oneBack) present) ⌝ }
 {
     let _ = &words[..];
     let start = start_in(words);
@@ -117,7 +117,7 @@ fn entering_slot(words: &mut Words, at: Station, others: usize) -> usize
             words[START] = slot as u64;
             slot
         }
-        Station::B => slot_of(start, others),
+        Station::B => slot_of(start, present),
     }
 }
 

@@ -22,7 +22,7 @@ returns-2 c =
     let a = begun .before .before .before .before .args in
     rw (c .before .enum-told2 .given .1) (record {
       stored = sym (set-getD (a .words .now) 3 0);
-      at = c .slot-of2 .ensures .0 ∙ ap (λ k. (k + a .others) % slots) (begun .start-in .ensures);
+      at = c .slot-of2 .ensures .0 ∙ ap (λ k. (k + a .present) % slots) (begun .start-in .ensures);
       inside = c .slot-of2 .ensures .1;
     })
 

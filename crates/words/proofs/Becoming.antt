@@ -23,9 +23,9 @@ pub becomes-as : {w after : List ℕ} {s t : Section} {i j : ℕ} → Becomes w 
 becomes-as {w} {after} {s} {t} {i} {j} b e f = subst (λ k. Becomes w after t k) f (subst (λ z. Becomes w after z i) e b)
 
 -- a desk twice
-desk-twice : (s : Section) (x : Station) (f g : Desk → Desk) → withDesk (withDesk s x (f (deskOf s x))) x (g (deskOf (withDesk s x (f (deskOf s x))) x)) ≡ withDesk s x (g (f (deskOf s x)))
-desk-twice s A f g = refl
-desk-twice s B f g = refl
+desk-twice : (s : Section) (x : Station) (d : Desk) (g : Desk → Desk) → withDesk (withDesk s x d) x (g (deskOf (withDesk s x d) x)) ≡ withDesk s x (g d)
+desk-twice s A d g = refl
+desk-twice s B d g = refl
 
 pub desk-length : (s : Section) (x : Station) (d : Desk) → withDesk s x d .len ≡ s .len
 desk-length s A d = refl
@@ -36,7 +36,7 @@ desk-then {w} {u} {after} x f g one two =
     let s = sectionIn w in
     let t = sectionIn u in
     let same : withDesk t x (g (deskOf t x)) .len ≡ withDesk s x (f (deskOf s x)) .len = desk-length t x (g (deskOf t x)) ∙ ap (λ z. z .len) (one .section) in
-    becomes-as (becomes-then one two (λ few. omega arith)) (ap (λ z. withDesk z x (g (deskOf z x))) (one .section) ∙ desk-twice s x f g) (one .start)
+    becomes-as (becomes-then one two (λ few. omega arith)) (ap (λ z. withDesk z x (g (deskOf z x))) (one .section) ∙ desk-twice s x (f (deskOf s x)) g) (one .start)
 
 -- the line twice, as long as it fits
 pub line-then : {w u after : List ℕ} (f g : List Vehicle → List Vehicle) (i j : ℕ → ℕ) → length (f (lineOf (sectionIn w))) ≤ 24

@@ -3,14 +3,18 @@
 -- Assumes nothing.
 use Prim.Native.Nat.{_%_, _+_, _-_, _<_, _≤_, suc, zero, ℕ}
 use Rattle.words.proofs.Written.{as-written, first-words, written}
-use Rattle.words.specs.Words.{Becomes, DeskBecomes, DeskPut, deskRead, deskIn, deskLength, deskWords, deskWordsIn, deskFrom, intervalIn, oneMore, sectionIn, startIn, wordCount, wordsFrom, wordsOf}
+use Rattle.words.specs.Stores.{DeskPut}
+use Rattle.words.specs.Words.{Becomes, DeskBecomes, sectionIn, startIn, wordCount, wordsFrom, wordsOf}
+use Rattle.words.specs.Words.{deskFrom, deskIn, deskLength, deskRead, deskWords, deskWordsIn, intervalIn}
 use Rattle.working.specs.Sections.{countRefusal, deskOf, withDesk}
 use Rattle.working.specs.declared.Desk.{Desk}
 use Rattle.working.specs.declared.Interval.the-variants.{Since}
 use Rattle.working.specs.declared.Section.{Section}
 use Rattle.working.specs.declared.Station.the-variants.{A, B}
 use Rattle.working.specs.declared.Station.{Station}
+use lib.Dec.{ltb}
 use lib.ListN.{drop, length, set, take, take-append-drop}
+use mathlib.Core.Bool.{cond}
 use mathlib.Core.List.{List, _++_}
 use mathlib.Core.Path.{_∙_, _≡_, ap, ap₂, refl, sym}
 use native.Mathlib.Nat.{mod-eq-of-lt}
@@ -91,11 +95,12 @@ desk-becomes {x} {w} {after} {put} f p read words =
 
 -- ---- the count of refusals
 
-pub count-becomes : (w : List ℕ) {n : ℕ} → length w ≡ wordCount → n < 4294967296 → n ≡ oneMore (sectionIn w .refused)
-    → Becomes w (set w 2 n) (countRefusal (sectionIn w)) (startIn w)
+pub count-becomes : (w : List ℕ) {count n : ℕ} → length w ≡ wordCount → n < 4294967296 → count ≡ sectionIn w .refused
+    → n ≡ cond (ltb count 4294967295) (count + 1) count → Becomes w (set w 2 n) (countRefusal (sectionIn w)) (startIn w)
 unfolding sectionIn wordsOf
-count-becomes w {n} long fits e =
+count-becomes w {count} {n} long fits before after =
     let shown = ap (λ u. set u 2 n) (as-written w long) in
+    let e : n ≡ countRefusal (sectionIn w) .refused = after ∙ ap (λ k. cond (ltb k 4294967295) (k + 1) k) before in
     record {
       section = ap sectionIn shown ∙ rw (mod-eq-of-lt fits, e);
       start = ap startIn shown;

@@ -1,11 +1,10 @@
 -- A section put into words: the words of an empty one, then each vehicle of the line entered at B's end, then the desks; at each step they are the own words of
 -- the section so far. And the places read off them, one after another.
 -- Assumes nothing.
-use Prim.Native.Nat.{_+_, _<_, _≤_, min, suc, zero, ℕ}
-use Rattle.section.proofs.Passes.{take-present}
+use Prim.Native.Nat.{_+_, _<_, _≤_, suc, zero, ℕ}
 use Rattle.words.proofs.Becoming.{becomes-as, desk-length, own-then}
 use Rattle.words.proofs.Packing.{one-back}
-use Rattle.words.specs.Words.{DeskBecomes, LineBecomes, OwnWords, bySlot, ringAt, sectionIn, slotWords, startIn, startOn, wordCount, wordsOf}
+use Rattle.words.specs.Words.{DeskBecomes, LineBecomes, OwnWords, bySlot, oneBack, sectionIn, slotWords, startOn, wordCount, wordsOf}
 use Rattle.working.proofs.Made.{line-with}
 use Rattle.working.specs.Sections.{emptied, insertAt, lineOf, padTo, unused, withDesk, withLine}
 use Rattle.working.specs.WellMade.{oneIf}
@@ -29,7 +28,7 @@ own-emptied force count fits = record { section = rw (one-back force, mod-eq-of-
 
 -- one more vehicle of a line
 pub own-next : {w after : List ℕ} (s : Section) (places : List Vehicle) (i : ℕ) → OwnWords w (withLine s (take i places)) → i < 24 → length places ≡ 24
-    → LineBecomes w after (insertAt B (getD places i unused)) (λ start. startOn B start 31) → OwnWords after (withLine s (take (i + 1) places))
+    → LineBecomes w after (insertAt B (getD places i unused)) (λ start. startOn B start oneBack) → OwnWords after (withLine s (take (i + 1) places))
 own-next {w} {after} s places i own less long b =
     let l = take i places in
     let v = getD places i unused in

@@ -6,7 +6,9 @@ use Rattle.section.proofs.Passes.{take-present}
 use Rattle.words.proofs.Ring.{Moves, Stands, round-at, round-length}
 use Rattle.words.proofs.Slots.{inRing, list-altered, slot-altered, slot-words}
 use Rattle.words.proofs.Written.{as-written, set-past}
-use Rattle.words.specs.Words.{Becomes, bySlot, firstWord, inSlot, lineIn, presentIn, ringAt, ringIn, round, secondWord, sectionIn, slotWords, slots, startIn, vehicleAt, vehicleIn, wordCount, wordsFrom, wordsOf}
+use Rattle.words.specs.Stores.{inSlot}
+use Rattle.words.specs.Words.{Becomes, Own, lineIn, presentIn, sectionIn, startIn, wordCount, wordsFrom, wordsOf}
+use Rattle.words.specs.Words.{bySlot, firstWord, ringFrom, ringIn, round, secondWord, slotWords, slots, vehicleAt, vehicleIn}
 use Rattle.working.proofs.Made.{length-padTo, line-with}
 use Rattle.working.proofs.Tests.{each-holds}
 use Rattle.working.specs.Reasons.{findOf, isNamed, mayMeet, meetingTests}
@@ -26,17 +28,24 @@ use native.Mathlib.Omega.{arith}
 
 -- ---- the line
 
-pub line-fits : (w : List ℕ) → length (lineIn w) ≤ 24
-line-fits w = omega (arith, round-length (vehicleAt (ringIn w)) (startIn w) (presentIn w))
-
 pub line-length : (w : List ℕ) → length (lineIn w) ≡ presentIn w
 line-length w = round-length (vehicleAt (ringIn w)) (startIn w) (presentIn w)
+
+pub line-fits : (w : List ℕ) → length (lineIn w) ≤ 24
+line-fits w = omega (arith, line-length w)
 
 pub line-of : (w : List ℕ) → lineOf (sectionIn w) ≡ lineIn w
 unfolding sectionIn
 line-of w =
     sym (take-present (padTo 24 (lineIn w)) (getD w 0 0) 24 (length-padTo 24 (lineIn w)))
     ∙ ap (λ n. take n (padTo 24 (lineIn w))) (sym (line-length w)) ∙ line-with 24 (lineIn w) (line-fits w)
+
+pub present-length : (w : List ℕ) → length (lineOf (sectionIn w)) ≡ presentIn w
+present-length w = ap length (line-of w) ∙ line-length w
+
+pub places-of : (w : List ℕ) → padTo 24 (lineOf (sectionIn w)) ≡ sectionIn w .vehicles
+unfolding sectionIn
+places-of w = ap (padTo 24) (line-of w)
 
 -- of the places of a line, one that is read, and any one if the line is not longer than they
 pad-at : (n : ℕ) (l : List Vehicle) (i : ℕ) → i < n → getD (padTo n l) i unused ≡ getD l i unused
@@ -61,19 +70,16 @@ line-stands : (w : List ℕ) → Stands (vehicleAt (ringIn w)) (startIn w) (line
 line-stands w i h = sym (line-at w i (omega (arith, line-length w)))
 
 -- what stands in the ring, as far as there are places
-round-pads : (at : ℕ → Vehicle) (start : ℕ) (l : List Vehicle) → Stands at start l (min (length l) 24) → padTo 24 (round at start (min (length l) 24)) ≡ padTo 24 l
-round-pads at start l stands =
-    let n : ℕ = min (length l) 24 in
+round-pads : (at : ℕ → Vehicle) (start : ℕ) (l : List Vehicle) {n : ℕ} → n ≡ min (length l) 24 → Stands at start l n → padTo 24 (round at start n) ≡ padTo 24 l
+round-pads at start l {n} size stands =
     ext-getD unused (padTo 24 (round at start n)) (padTo 24 l) (length-padTo 24 (round at start n) ∙ sym (length-padTo 24 l))
     (λ i h.
     let less : i < 24 = omega (arith, length-padTo 24 (round at start n)) in
     pad-at 24 (round at start n) i less ∙ by i less (decLe (length l) i) ∙ sym (pad-at 24 l i less))
   where
-    by : (i : ℕ) → i < 24 → Dec (length l ≤ i) → getD (round at start (min (length l) 24)) i unused ≡ getD l i unused
-    by i h (yes past) =
-        List·getD-eq-default (round at start (min (length l) 24)) unused (omega (arith, round-length at start (min (length l) 24)))
-        ∙ sym (List·getD-eq-default l unused past)
-    by i h (no inside) = round-at at start (min (length l) 24) i (omega arith) ∙ stands i (omega arith)
+    by : (i : ℕ) → i < 24 → Dec (length l ≤ i) → getD (round at start n) i unused ≡ getD l i unused
+    by i h (yes past) = List·getD-eq-default (round at start n) unused (omega (arith, round-length at start n)) ∙ sym (List·getD-eq-default l unused past)
+    by i h (no inside) = round-at at start n i (omega arith) ∙ stands i (omega arith)
 
 pub near-none : (x : Station) (l : List Vehicle) → length l ≡ 0 → nearestAt x l ≡ unused
 near-none A [] e = refl
@@ -94,11 +100,6 @@ find-on sender form l i {named} h e =
 pub may-meet-in : (l : List Vehicle) (i : ℕ) → mayMeet l i ≡ true → i + 1 < length l
 may-meet-in l i e = ltb-true (i + 1) (length l) (each-holds (meetingTests l i) e .0)
 
--- as many are present as the section says
-pub present-of : (w : List ℕ) → presentIn w ≡ min (sectionIn w .len) 24
-unfolding sectionIn
-present-of w = refl
-
 -- ---- a section's places slot by slot
 
 slot-count : (places : List Vehicle) (start : ℕ) → length (bySlot places start) ≡ slots
@@ -111,13 +112,13 @@ slot-at places start k h = round-at (λ i. getD places i unused) (slots - start)
 
 -- ---- two words are stored in a slot
 
-slot-past : (p r : List ℕ) (slot first second : ℕ) → length p ≡ ringAt → inSlot (p ++ r) slot first second ≡ p ++ inRing r slot first second
+slot-past : (p r : List ℕ) (slot first second : ℕ) → length p ≡ ringFrom → inSlot (p ++ r) slot first second ≡ p ++ inRing r slot first second
 slot-past p r slot first second e =
     ap₂ (λ i j. set (set (p ++ r) i first) j second) (ap (λ k. k + 2 * slot) (sym e)) (ap (λ k. k + (2 * slot + 1)) (sym e))
     ∙ ap (λ t. set t (length p + (2 * slot + 1)) second) (set-past p r (2 * slot) first)
     ∙ set-past p (set r (2 * slot) first) (2 * slot + 1) second
 
--- a vehicle's words, the line's length and the word of the ring's start: in own words, as the definition has them
+-- A vehicle's words, the line's length n and the word of the ring's start. In own words they are those that the definition names.
 pub record Stored (w after : List ℕ) (slot : ℕ) (v : Vehicle) (n start : ℕ) : Type 0 where
   pub first : ℕ
   pub second : ℕ
@@ -126,11 +127,14 @@ pub record Stored (w after : List ℕ) (slot : ℕ) (v : Vehicle) (n start : ℕ
   pub stored : after ≡ inSlot (set (set w 0 n) 3 word) slot first second
   pub vehicle : vehicleIn first second ≡ v
   pub begins : word % slots ≡ start
-  pub own : w ≡ wordsOf (sectionIn w) (startIn w) → (first ≡ firstWord v) × (second ≡ secondWord v) × (word ≡ start)
+  pub own-first : Own w → first ≡ firstWord v
+  pub own-second : Own w → second ≡ secondWord v
+  pub own-word : Own w → word ≡ start
 
 module _ (slot : ℕ) (v : Vehicle) (start : ℕ) (l : List Vehicle) (inside : slot < slots) (less : start < slots) where
-  -- in a section's own words
-  module _ (s : Section) (a : ℕ) (before : List Vehicle) (from : a < slots) (fits : length before ≤ 24) (places : s .vehicles ≡ padTo 24 before) (moves : Moves a before slot v start l) (few : length l ≤ 24) where
+  -- in a section's own words: `before` is its line, from slot a on
+  module _ (s : Section) (a : ℕ) (before : List Vehicle) (from : a < slots) (fits : length before ≤ 24) (places : s .vehicles ≡ padTo 24 before)
+      (moves : Moves a before slot v start l) (few : length l ≤ 24) where
     slots-stand : Stands (λ k. getD (bySlot (s .vehicles) a) k unused) a before slots
     slots-stand i h = slot-at (s .vehicles) a ((a + i) % slots) (omega arith) ∙ ap₂ (λ t k. getD t k unused) places (omega arith) ∙ pad-any 24 before i fits
 
@@ -150,7 +154,7 @@ module _ (slot : ℕ) (v : Vehicle) (start : ℕ) (l : List Vehicle) (inside : s
     own-after : inSlot (set (set (wordsOf s a) 0 (length l)) 3 start) slot (firstWord v) (secondWord v) ≡ wordsOf (withLine s l) start
     unfolding wordsOf
     own-after =
-        let figures : List ℕ = set (set (wordsFrom 0 ringAt (wordsOf s a)) 0 (length l)) 3 start in
+        let figures : List ℕ = set (set (wordsFrom 0 ringFrom (wordsOf s a)) 0 (length l)) 3 start in
         slot-past figures (slotWords (bySlot (s .vehicles) a)) slot (firstWord v) (secondWord v) refl
         ∙ ap (figures ++_) (slot-words (bySlot (s .vehicles) a) slot v ∙ ap slotWords slots-after)
 
@@ -161,20 +165,20 @@ module _ (slot : ℕ) (v : Vehicle) (start : ℕ) (l : List Vehicle) (inside : s
   line-becomes w {after} {n} r size moves =
       let first = r .first in
       let second = r .second in
-      let figures : List ℕ = set (set (wordsFrom 0 ringAt w) 0 (length l)) 3 (r .word) in
-      let stored : after ≡ inSlot (set (set w 0 (length l)) 3 (r .word)) slot first second = r .stored ∙ ap (λ k. inSlot (set (set w 0 k) 3 (r .word)) slot first second) size in
+      let word = r .word in
+      let figures : List ℕ = set (set (wordsFrom 0 ringFrom w) 0 n) 3 word in
       let shown : after ≡ figures ++ inRing (ringIn w) slot first second =
-      stored ∙ ap (λ u. inSlot (set (set u 0 (length l)) 3 (r .word)) slot first second) (as-written w (r .long))
-      ∙ slot-past figures (ringIn w) slot first second refl in
-      let altered = slot-altered (ringIn w) slot first second (omega (arith, length-drop ringAt w, r .long)) (r .vehicle) in
-      let places : padTo 24 (round (vehicleAt (inRing (ringIn w) slot first second)) start (min (length l) 24)) ≡ padTo 24 l = round-pads _ start l (moves .line altered (line-stands w)) in
+      r .stored ∙ ap (λ u. inSlot (set (set u 0 n) 3 word) slot first second) (as-written w (r .long)) ∙ slot-past figures (ringIn w) slot first second refl in
+      let altered = slot-altered (ringIn w) slot first second (omega (arith, length-drop ringFrom w, r .long)) (r .vehicle) in
+      let stands = moves .line altered (line-stands w) in
+      let places : padTo 24 (round (vehicleAt (inRing (ringIn w) slot first second)) start (min n 24)) ≡ padTo 24 l =
+      round-pads _ start l (ap (λ k. min k 24) size) (λ i h. stands i (omega arith)) in
       record {
-        section = ap sectionIn shown ∙ rw (r .begins, places);
+        section = ap sectionIn shown ∙ rw (r .begins, places, size);
         start = ap startIn shown ∙ r .begins;
         own = λ few e.
-            let same = r .own e in
-            stored
-            ∙ rw (same .0, same .1, same .2)
+            r .stored
+            ∙ rw (size, r .own-first e, r .own-second e, r .own-word e)
             (ap (λ u. inSlot (set (set u 0 (length l)) 3 start) slot (firstWord v) (secondWord v)) e
             ∙ own-after (sectionIn w) (startIn w) (lineIn w) (omega arith) (line-fits w) refl moves few);
       }

@@ -2,7 +2,8 @@
 -- and, where every other slot was unused, still nothing else: one law of each act serves both, with the number m of places that are known.
 -- Assumes nothing.
 use Prim.Native.Nat.{_%_, _+_, _-_, _<_, _≤_, min, suc, zero, ℕ}
-use Rattle.words.specs.Words.{endSlot, round, slots, startOn}
+use Rattle.words.specs.Stores.{endSlot}
+use Rattle.words.specs.Words.{oneBack, round, slots, startOn}
 use Rattle.working.proofs.Line.{insert-length}
 use Rattle.working.proofs.Meeting.{turn-length, turn-set}
 use Rattle.working.specs.Sections.{insertAt, removeAt, unused}
@@ -62,8 +63,8 @@ remove-length A l = length-drop 1 l
 remove-length B l = length-take-le (length l - 1) l (omega arith)
 
 module _ {at after : ℕ → Vehicle} (start : ℕ) (l : List Vehicle) (less : start < slots) (fits : length l ≤ 24) (m m′ : ℕ) (whole : m′ ≤ slots) (stands : Stands at start l m) where
-  pub enters : (x : Station) (v : Vehicle) → Alters at after (endSlot x (startOn x start 31) (length l)) v
-      → m′ ≤ m + 1 → ((i : ℕ) → i < m′ → (i ≡ length l → ⊥) → i < m) → Stands after (startOn x start 31) (insertAt x v l) m′
+  pub enters : (x : Station) (v : Vehicle) → Alters at after (endSlot x (startOn x start oneBack) (length l)) v
+      → m′ ≤ m + 1 → ((i : ℕ) → i < m′ → (i ≡ length l → ⊥) → i < m) → Stands after (startOn x start oneBack) (insertAt x v l) m′
   enters A v a up reach zero h = a .here _ (omega arith)
   enters A v a up reach (suc i) h =
       a .elsewhere _ (λ e. omega arith) ∙ ap at (omega arith) ∙ stands i (omega arith)
@@ -74,10 +75,10 @@ module _ {at after : ℕ → Vehicle} (start : ℕ) (l : List Vehicle) (less : s
       by (no ne) = a .elsewhere _ (λ e. ne (omega arith)) ∙ stands i (reach i h ne) ∙ sym (snoc-at l v i ne)
 
   pub leaves : (x : Station) → Alters at after (endSlot x start (length l - 1)) unused
-      → ((i : ℕ) → i < m′ → i < 31 → i + 1 < m) → ((i : ℕ) → i < m′ → (i + 1 ≡ length l → ⊥) → i < m) → Stands after (startOn x start 1) (removeAt x l) m′
-  leaves A a next reach i h = by (decLe 31 i)
+      → ((i : ℕ) → i < m′ → i < oneBack → i + 1 < m) → ((i : ℕ) → i < m′ → (i + 1 ≡ length l → ⊥) → i < m) → Stands after (startOn x start 1) (removeAt x l) m′
+  leaves A a next reach i h = by (decLe oneBack i)
     where
-      by : Dec (31 ≤ i) → after ((startOn A start 1 + i) % slots) ≡ getD (removeAt A l) i unused
+      by : Dec (oneBack ≤ i) → after ((startOn A start 1 + i) % slots) ≡ getD (removeAt A l) i unused
       by (yes last) = a .here _ (omega arith) ∙ sym (getD-drop 1 l i unused ∙ List·getD-eq-default l unused (omega arith))
       by (no inside) =
           a .elsewhere _ (λ e. omega arith) ∙ ap at (omega arith) ∙ stands (i + 1) (next i h (omega arith))
@@ -88,8 +89,8 @@ module _ {at after : ℕ → Vehicle} (start : ℕ) (l : List Vehicle) (less : s
       by (yes e) = a .here _ e ∙ sym (List·getD-eq-default (removeAt B l) unused (omega (arith, length-take (length l - 1) l)))
       by (no ne) = let apart : i + 1 ≡ length l → ⊥ = λ e. ne (omega arith) in a .elsewhere _ ne ∙ stands i (reach i h apart) ∙ sym (init-at l i apart)
 
-  pub turns : (x : Station) (j : ℕ) → j < length l → m′ ≤ m → Alters at after ((start + j) % slots) (turned x (getD l j unused)) → Stands after start (turnAt x j l) m′
-  turns x j inside few a i h = by (ℕ-discrete i j) ∙ sym (ap (λ t. getD t i unused) (turn-set x j l))
+  pub meets : (x : Station) (j : ℕ) → j < length l → m′ ≤ m → Alters at after ((start + j) % slots) (turned x (getD l j unused)) → Stands after start (turnAt x j l) m′
+  meets x j inside few a i h = by (ℕ-discrete i j) ∙ sym (ap (λ t. getD t i unused) (turn-set x j l))
     where
       by : Dec (i ≡ j) → after ((start + i) % slots) ≡ getD (set l j (turned x (getD l j unused))) i unused
       by (yes e) = a .here _ (omega arith) ∙ sym (ap (λ k. getD (set l j (turned x (getD l j unused))) k unused) e ∙ getD-set-same l j _ unused inside)
@@ -102,7 +103,7 @@ pub record Moves (start : ℕ) (l : List Vehicle) (slot : ℕ) (v : Vehicle) (st
   pub alone : length l′ ≤ 24 → {at after : ℕ → Vehicle} → Alters at after slot v → Stands at start l slots → Stands after start′ l′ slots
 
 module _ (start : ℕ) (l : List Vehicle) (less : start < slots) (fits : length l ≤ 24) (x : Station) where
-  pub enters-moves : (v : Vehicle) → Moves start l (endSlot x (startOn x start 31) (length l)) v (startOn x start 31) (insertAt x v l)
+  pub enters-moves : (v : Vehicle) → Moves start l (endSlot x (startOn x start oneBack) (length l)) v (startOn x start oneBack) (insertAt x v l)
   enters-moves v = record {
     line = λ a st. enters start l less fits (length l) _ (omega arith) st x v a (omega (arith, insert-length x v l)) (λ i h ne. omega (arith, insert-length x v l));
     alone = λ few a st. enters start l less fits slots slots (omega arith) st x v a (omega arith) (λ i h ne. omega arith);
@@ -114,8 +115,8 @@ module _ (start : ℕ) (l : List Vehicle) (less : start < slots) (fits : length 
     alone = λ few a st. leaves start l less fits slots slots (omega arith) st x a (λ i h ne. omega arith) (λ i h ne. omega arith);
   }
 
-  pub turns-moves : (j : ℕ) → j < length l → Moves start l ((start + j) % slots) (turned x (getD l j unused)) start (turnAt x j l)
-  turns-moves j inside = record {
-    line = λ a st. turns start l less fits (length l) _ (omega arith) st x j inside (omega (arith, turn-length x j l)) a;
-    alone = λ few a st. turns start l less fits slots slots (omega arith) st x j inside (omega arith) a;
+  pub meets-moves : (j : ℕ) → j < length l → Moves start l ((start + j) % slots) (turned x (getD l j unused)) start (turnAt x j l)
+  meets-moves j inside = record {
+    line = λ a st. meets start l less fits (length l) _ (omega arith) st x j inside (omega (arith, turn-length x j l)) a;
+    alone = λ few a st. meets start l less fits slots slots (omega arith) st x j inside (omega arith) a;
   }

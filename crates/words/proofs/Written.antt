@@ -1,7 +1,7 @@
 -- Words written out: the figures one by one, so that each is read back where it was put, and the ring behind them.
 -- Assumes nothing.
 use Prim.Native.Nat.{_+_, _<_, _≤_, suc, zero, ℕ}
-use Rattle.words.specs.Words.{ringAt, ringIn, wordCount, wordsFrom}
+use Rattle.words.specs.Words.{ringFrom, ringIn, wordCount, wordsFrom}
 use lib.ListN.{drop, getD, length, length-set, set, take}
 use lib.Seq.{drop-cons, drop-set-add, take-at, take-set-lt}
 use mathlib.Core.List.{List, [], _++_, _∷_}
@@ -37,10 +37,10 @@ words-set i n w k v fits inside =
     ∙ ap (λ t. set t k v) (sym (taken i n w fits))
 
 abbrev pub written : List ℕ → List ℕ
-written w = wordsFrom 0 ringAt w ++ ringIn w
+written w = wordsFrom 0 ringFrom w ++ ringIn w
 
 pub as-written : (w : List ℕ) → length w ≡ wordCount → w ≡ written w
-as-written w long = first-words 0 ringAt w (omega arith)
+as-written w long = first-words 0 ringFrom w (omega arith)
 
 -- a word stored past some
 pub set-past : (p r : List ℕ) (i a : ℕ) → set (p ++ r) (length p + i) a ≡ p ++ set r i a

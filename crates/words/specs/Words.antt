@@ -11,7 +11,7 @@
 --
 -- A slot's first word, from its low end: form number (two bytes), sender, heading, met (1 or 0), class (a byte each).
 -- Its second word: what the vehicle left on (0 OPEN, 1 THROUGH, 2 RETURN, 3 TRAIN), granted, asked (a byte each). Two zeros are an unused place.
-use Prim.Native.Nat.{_%_, _*_, _+_, _-_, _/_, _<_, _≤_, min, suc, zero, ℕ}
+use Prim.Native.Nat.{_%_, _*_, _+_, _-_, _/_, _^_, _≤_, min, suc, zero, ℕ}
 use Rattle.working.specs.Reasons.{findOf, mayMeet}
 use Rattle.working.specs.Sections.{deskOf, lineOf, padTo, unused, withDesk, withLine}
 use Rattle.working.specs.Steps.{metAt}
@@ -26,9 +26,9 @@ use Rattle.working.specs.declared.Section.{Section}
 use Rattle.working.specs.declared.Station.the-variants.{A, B}
 use Rattle.working.specs.declared.Station.{Station}
 use Rattle.working.specs.declared.Vehicle.{Vehicle}
-use lib.Dec.{eqb, ltb}
-use lib.ListN.{drop, getD, length, set, take}
-use mathlib.Core.Bool.{Bool, cond, false, true}
+use lib.Dec.{eqb}
+use lib.ListN.{drop, getD}
+use mathlib.Core.Bool.{Bool, false, true}
 use mathlib.Core.List.{List, [], _++_, _∷_}
 use mathlib.Core.Path.{_≡_}
 
@@ -42,15 +42,14 @@ abbrev pub deskFrom : Station → ℕ
 deskFrom A = 4
 deskFrom B = 4 + deskLength
 
+abbrev pub ringFrom : ℕ
+ringFrom = 4 + 2 * deskLength
+
 abbrev pub slots : ℕ
 slots = 32
 
--- where the ring begins, and how many words there are in all
-abbrev pub ringAt : ℕ
-ringAt = 4 + 2 * deskLength
-
 abbrev pub wordCount : ℕ
-wordCount = ringAt + 2 * slots
+wordCount = ringFrom + 2 * slots
 
 -- n words from one on
 abbrev pub wordsFrom : ℕ → ℕ → List ℕ → List ℕ
@@ -58,6 +57,10 @@ wordsFrom i zero w = []
 wordsFrom i (suc n) w = getD w i 0 ∷ wordsFrom (i + 1) n w
 
 -- ---- a vehicle in two words
+
+-- a byte of a word, counted from its low end
+abbrev pub byteOf : ℕ → ℕ → ℕ
+byteOf word i = word / 256 ^ i % 256
 
 -- what a vehicle left on, by number, with asked and granted
 abbrev pub leftOn : ℕ → ℕ → ℕ → Movement
@@ -67,23 +70,23 @@ leftOn (suc (suc zero)) asked granted = Return asked granted
 leftOn (suc (suc (suc n))) asked granted = Train asked granted
 
 abbrev pub movementIn : ℕ → Movement
-movementIn second = leftOn (second % 256) (second / 65536 % 256) (second / 256 % 256)
+movementIn second = leftOn (second % 256) (byteOf second 2) (byteOf second 1)
 
 abbrev pub vehicleIn : ℕ → ℕ → Vehicle
 vehicleIn first second = record {
   movement = movementIn second;
-  sender = first / 65536 % 256;
+  sender = byteOf first 2;
   form = first % 65536;
-  heading = first / 16777216 % 256;
-  met = eqb (first / 4294967296 % 256) 1;
-  class = first / 1099511627776 % 256;
+  heading = byteOf first 3;
+  met = eqb (byteOf first 4) 1;
+  class = byteOf first 5;
 }
 
 abbrev pub firstWord : Vehicle → ℕ
-firstWord v = v .form + v .sender * 65536 + v .heading * 16777216 + oneIf (v .met) * 4294967296 + v .class * 1099511627776
+firstWord v = v .form + v .sender * 256 ^ 2 + v .heading * 256 ^ 3 + oneIf (v .met) * 256 ^ 4 + v .class * 256 ^ 5
 
 abbrev pub packed : ℕ → ℕ → ℕ → ℕ
-packed left asked granted = left + granted * 256 + asked * 65536
+packed left asked granted = left + granted * 256 + asked * 256 ^ 2
 
 abbrev pub movementWord : Movement → ℕ
 movementWord (Open asked) = packed 0 asked 0
@@ -101,9 +104,9 @@ abbrev pub round : (ℕ → Vehicle) → ℕ → ℕ → List Vehicle
 round at i zero = []
 round at i (suc n) = at (i % slots) ∷ round at (i + 1) n
 
--- the vehicle in a slot of the ring, which lies behind all other words
+-- the ring's words, behind all others, and the vehicle in a slot of theirs
 abbrev pub ringIn : List ℕ → List ℕ
-ringIn w = drop ringAt w
+ringIn w = drop ringFrom w
 
 abbrev pub vehicleAt : List ℕ → ℕ → Vehicle
 vehicleAt ring slot = vehicleIn (getD ring (2 * slot) 0) (getD ring (2 * slot + 1) 0)
@@ -126,19 +129,14 @@ unfoldable pub slotWords : List Vehicle → List ℕ
 slotWords [] = []
 slotWords (v ∷ l) = firstWord v ∷ secondWord v ∷ slotWords l
 
--- the ring's start moved n slots on at A's end, and left at B's (one back is 31 on); and the word that then holds it
+-- the ring's start moved n slots on at A's end, and left where it is at B's
 abbrev pub startOn : Station → ℕ → ℕ → ℕ
 startOn A start n = (start + n) % slots
 startOn B start n = start
 
-abbrev pub startWord : Station → ℕ → List ℕ → ℕ
-startWord A n w = (startIn w + n) % slots
-startWord B n w = getD w 3 0
-
--- the slot at a station's end of a line from the start on, with so many others in the line
-abbrev pub endSlot : Station → ℕ → ℕ → ℕ
-endSlot A start others = start
-endSlot B start others = (start + others) % slots
+-- so many slots on is one slot back
+abbrev pub oneBack : ℕ
+oneBack = slots - 1
 
 -- ---- a desk
 
@@ -181,10 +179,6 @@ deskWordsIn w x = wordsFrom (deskFrom x) deskLength w
 abbrev pub deskIn : List ℕ → Station → Desk
 deskIn w x = deskRead (deskWordsIn w x)
 
--- "a 32-bit count of refused entries that stops at its largest value"
-abbrev pub oneMore : ℕ → ℕ
-oneMore count = cond (ltb count 4294967295) (count + 1) count
-
 -- ---- the section that words stand for, and the words of a section whose ring starts at a slot
 
 unfoldable pub sectionIn : List ℕ → Section
@@ -200,7 +194,11 @@ sectionIn w = record {
 unfoldable pub wordsOf : Section → ℕ → List ℕ
 wordsOf s start = s .len ∷ oneIf (s .force) ∷ s .refused ∷ start ∷ deskWords (s .a) ++ deskWords (s .b) ++ slotWords (bySlot (s .vehicles) start)
 
--- words that are a section's own, with the ring's start at the first slot
+-- the words are some section's own: of all that stand for it, from that start on, those that a definition names
+abbrev pub Own : List ℕ → Type 0
+Own w = w ≡ wordsOf (sectionIn w) (startIn w)
+
+-- they are a section's own, with the ring's start at the first slot
 pub record OwnWords (w : List ℕ) (s : Section) : Type 0 where
   pub section : sectionIn w ≡ s
   pub start : startIn w ≡ 0
@@ -209,38 +207,15 @@ pub record OwnWords (w : List ℕ) (s : Section) : Type 0 where
 
 -- ---- what a function makes of the words that it is lent
 
--- They stand for a section, with the ring's start at a slot; and words that are some section's own become the words of that section.
+-- They stand for a section, with the ring's start at a slot; and a section's own words become that section's own.
 pub record Becomes (before after : List ℕ) (s : Section) (slot : ℕ) : Type 0 where
   pub section : sectionIn after ≡ s
   pub start : startIn after ≡ slot
-  pub own : s .len ≤ 24 → before ≡ wordsOf (sectionIn before) (startIn before) → after ≡ wordsOf s slot
+  pub own : s .len ≤ 24 → Own before → after ≡ wordsOf s slot
 
--- the words of a station's desk are altered, and no other
-pub record DeskPut (before after : List ℕ) (x : Station) (put : List ℕ → List ℕ) : Type 0 where
-  pub long : length before ≡ wordCount
-  pub same : length after ≡ length before
-  pub desk : deskWordsIn after x ≡ put (deskWordsIn before x)
-  pub ahead : take (deskFrom x) after ≡ take (deskFrom x) before
-  pub behind : drop (deskFrom x + deskLength) after ≡ drop (deskFrom x + deskLength) before
-
--- the line alone is altered
+-- the line alone is altered, and the ring's start with it
 abbrev pub LineBecomes : List ℕ → List ℕ → (List Vehicle → List Vehicle) → (ℕ → ℕ) → Type 0
 LineBecomes before after f start = Becomes before after (withLine (sectionIn before) (f (lineOf (sectionIn before)))) (start (startIn before))
-
--- a slot's two words are stored, and the vehicle comes back from its own
-abbrev pub inSlot : List ℕ → ℕ → ℕ → ℕ → List ℕ
-inSlot w slot first second = set (set w (ringAt + 2 * slot) first) (ringAt + (2 * slot + 1)) second
-
-pub record VehiclePut (before after : List ℕ) (slot : ℕ) (v : Vehicle) : Type 0 where
-  pub long : length before ≡ wordCount
-  pub stored : after ≡ inSlot before slot (firstWord v) (secondWord v)
-  pub back : vehicleIn (firstWord v) (secondWord v) ≡ v
-
--- the ring's start is moved, and a slot is the one at a station's end
-pub record StartMoved (before after : List ℕ) (x : Station) (n slot there : ℕ) : Type 0 where
-  pub stored : after ≡ set before 3 (startWord x n before)
-  pub at : slot ≡ there
-  pub inside : slot < slots
 
 -- MEET, where the pair may meet
 abbrev pub metIf : Bool → Section → Station → ℕ → Section

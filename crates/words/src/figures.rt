@@ -1,8 +1,12 @@
 // The figures of a section but for the line, in lent words: the length of the line, in force, refused, the ring's start, and nine words for each desk.
-ghost use Prim.Native.Nat.{_%_, _<_, _≤_};
-ghost use Rattle.words.specs.Words.{Becomes, DeskBecomes, DeskPut, deskWordsIn, deskFrom, intervalIn, intervalWord, oneMore, sectionIn, startIn, withClears, withDeparture, withGuest, withOut, withReceipt, withEntered};
+ghost use Prim.Native.Nat.{_%_, _+_, _<_, _≤_};
+ghost use Rattle.words.specs.Stores.{DeskPut};
+ghost use Rattle.words.specs.Words.{Becomes, DeskBecomes, deskFrom, deskLength, deskWordsIn, intervalIn, intervalWord, sectionIn, startIn, withClears, withDeparture, withEntered, withGuest, withOut, withReceipt};
 ghost use Rattle.working.specs.Sections.{countRefusal, deskOf};
+ghost use Rattle.working.specs.declared.Station.the-variants.{B};
+ghost use lib.Dec.{ltb};
 ghost use lib.ListN.{getD, set};
+ghost use mathlib.Core.Bool.{cond};
 ghost use mathlib.Core.Path.{_≡_};
 use crate::vehicles::BYTE;
 use crate::vehicles::TWO_BYTES;
@@ -42,7 +46,7 @@ const HOLDS: usize = 7;
 
 const OWES: usize = 8;
 
-const DESK_LENGTH: usize = 9;
+const DESK_LENGTH: usize = OWES + 1;
 
 // The ring of vehicles lies behind the two desks.
 pub(crate) const RING: usize = FIRST_DESK + 2 * DESK_LENGTH;
@@ -60,7 +64,7 @@ const COUNTS: u64 = Section::MOST_REFUSED as u64 + 1;
 
 // Where a station's words begin.
 fn desk_from(at: Station) -> usize
-    ensures { λ r. ⌜ (r ≡ deskFrom at) × (r ≤ 13) ⌝ }
+    ensures { λ r. ⌜ (r ≡ deskFrom at) × (r ≤ deskFrom B) ⌝ }
 {
     match at {
         Station::A => FIRST_DESK,
@@ -70,7 +74,7 @@ fn desk_from(at: Station) -> usize
 
 // A word of a desk.
 fn word_at(words: &Words, at: Station, figure: usize) -> u64
-    requires { ⌜ figure < 9 ⌝ }
+    requires { ⌜ figure < deskLength ⌝ }
     ensures { λ r. ⌜ r ≡ getD (deskWordsIn (now (words .entry)) at) figure 0 ⌝ }
 {
     words[desk_from(at) + figure]
@@ -78,7 +82,7 @@ fn word_at(words: &Words, at: Station, figure: usize) -> u64
 
 // A figure of one byte.
 fn byte_at(words: &Words, at: Station, figure: usize) -> u8
-    requires { ⌜ figure < 9 ⌝ }
+    requires { ⌜ figure < deskLength ⌝ }
     ensures { λ r. ⌜ r ≡ getD (deskWordsIn (now (words .entry)) at) figure 0 % 256 ⌝ }
 {
     (word_at(words, at, figure) % BYTE) as u8
@@ -86,7 +90,7 @@ fn byte_at(words: &Words, at: Station, figure: usize) -> u8
 
 // A figure of two bytes.
 fn short_at(words: &Words, at: Station, figure: usize) -> u16
-    requires { ⌜ figure < 9 ⌝ }
+    requires { ⌜ figure < deskLength ⌝ }
     ensures { λ r. ⌜ r ≡ getD (deskWordsIn (now (words .entry)) at) figure 0 % 65536 ⌝ }
 {
     (word_at(words, at, figure) % TWO_BYTES) as u16
@@ -132,7 +136,7 @@ pub fn desk(words: &Words, at: Station) -> Desk
 
 // A word of a desk is replaced. Seen as a slice, the array shows the proof how many its words are.
 fn put(words: &mut Words, at: Station, figure: usize, word: u64)
-    requires { ⌜ figure < 9 ⌝ }
+    requires { ⌜ figure < deskLength ⌝ }
     ensures { λ _. ⌜ DeskPut (now (words .entry)) (now (words .exit)) at (λ t. set t figure word) ⌝ }
 {
     let _ = &words[..];
@@ -200,9 +204,9 @@ pub(crate) fn put_desk(words: &mut Words, at: Station, d: Desk)
     put_clears(words, at, clears);
 }
 
-// One more, up to the largest value.
-fn one_more(count: u32) -> u32
-    ensures { λ r. ⌜ r ≡ oneMore count ⌝ }
+// The count with one more, up to its largest value.
+fn one_more_refused(count: u32) -> u32
+    ensures { λ r. ⌜ r ≡ cond (ltb count 4294967295) (count + 1) count ⌝ }
 {
     if count < Section::MOST_REFUSED {
         count + 1
@@ -223,7 +227,7 @@ pub fn count_refusal(words: &mut Words)
     ensures { λ _. ⌜ Becomes (now (words .entry)) (now (words .exit)) (countRefusal (sectionIn (now (words .entry)))) (startIn (now (words .entry))) ⌝ }
 {
     let _ = &words[..];
-    let count = one_more(refused(words));
+    let count = one_more_refused(refused(words));
     words[REFUSED] = count as u64;
 }
 

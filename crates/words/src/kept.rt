@@ -1,6 +1,6 @@
 // A section put into words, and read off them.
-ghost use Rattle.words.specs.Words.{OwnWords, lineIn, sectionIn};
-ghost use Rattle.working.specs.Sections.{emptied, fresh, lineOf, padTo, withLine};
+ghost use Rattle.words.specs.Words.{OwnWords, sectionIn};
+ghost use Rattle.working.specs.Sections.{emptied, fresh, lineOf, withLine};
 ghost use lib.ListN.{take};
 ghost use mathlib.Core.Path.{_≡_};
 use crate::figures::Words;
@@ -54,7 +54,7 @@ pub fn words_of(s: Section) -> Words
 
 // The places that the words stand for: the line, and unused ones behind it.
 fn places_in(words: &Words) -> [Vehicle; Section::PLACES]
-    ensures { λ r. ⌜ r ≡ padTo 24 (lineIn (now (words .entry))) ⌝ }
+    ensures { λ r. ⌜ r ≡ sectionIn (now (words .entry)) .vehicles ⌝ }
 {
     let present = present_in(words);
     let mut places = [Vehicle::unused(); Section::PLACES];

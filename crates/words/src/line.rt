@@ -1,11 +1,12 @@
 // The vehicles present, in a ring of slots: one enters or leaves at a station's end, and two meet. No other vehicle is moved. What lies in a slot outside the line
 // stands for nothing; a slot is made unused when its vehicle leaves, so that a section has words of its own.
 ghost use Prim.Native.Nat.{_%_, _+_, _-_, _<_, _≤_, min};
-ghost use Rattle.words.specs.Words.{Becomes, LineBecomes, Met, OwnWords, StartMoved, VehiclePut, endSlot, lineIn, presentIn, ringIn, sectionIn, slots, startIn, startOn, vehicleAt};
+ghost use Rattle.words.specs.Stores.{StartMoved, VehiclePut, endSlot};
+ghost use Rattle.words.specs.Words.{Becomes, LineBecomes, Met, OwnWords, oneBack, ringIn, sectionIn, slots, startIn, startOn, vehicleAt};
 ghost use Rattle.working.specs.Reasons.{findOf, mayMeet};
 ghost use Rattle.working.specs.Sections.{emptied, insertAt, lineOf, nearestAt, removeAt, unused};
 ghost use Rattle.working.specs.Steps.{turnAt, turned};
-ghost use lib.ListN.{getD};
+ghost use lib.ListN.{getD, length};
 ghost use mathlib.Core.Path.{_≡_};
 use crate::figures::FORCE;
 use crate::figures::LEN;
@@ -54,7 +55,7 @@ pub(crate) fn fitting(len: usize) -> usize
 
 // How many vehicles are present.
 pub(crate) fn present_in(words: &Words) -> usize
-    ensures { λ r. ⌜ r ≡ presentIn (now (words .entry)) ⌝ }
+    ensures { λ r. ⌜ (r ≡ length (lineOf (sectionIn (now (words .entry))))) × (r ≤ 24) ⌝ }
 {
     fitting(words[LEN] as usize)
 }
@@ -85,8 +86,8 @@ fn vehicle_at(words: &Words, slot: usize) -> Vehicle
 
 // The vehicle at place `i` of the line.
 pub(crate) fn at_place(words: &Words, i: usize) -> Vehicle
-    requires { ⌜ i < presentIn (now words) ⌝ }
-    ensures { λ r. ⌜ r ≡ getD (lineIn (now (words .entry))) i unused ⌝ }
+    requires { ⌜ i < length (lineOf (sectionIn (now words))) ⌝ }
+    ensures { λ r. ⌜ r ≡ getD (lineOf (sectionIn (now (words .entry)))) i unused ⌝ }
 {
     vehicle_at(words, slot_of(start_in(words), i))
 }
@@ -103,10 +104,10 @@ fn put_vehicle(words: &mut Words, slot: usize, v: Vehicle)
     words[RING + (first + 1)] = second_word(movement);
 }
 
-// The slot at a station's end for a vehicle that enters beside `others`: at A's end the ring's start moves there.
-fn entering_slot(words: &mut Words, at: Station, others: usize) -> usize
-    requires { ⌜ others < slots ⌝ }
-    ensures { λ r. ⌜ StartMoved (now (words .entry)) (now (words .exit)) at 31 r (endSlot at (startOn at (startIn (now (words .entry))) 31) others) ⌝ }
+// The slot for a vehicle that enters at a station's end: at A's end the ring's start moves there.
+fn entering_slot(words: &mut Words, at: Station, present: usize) -> usize
+    requires { ⌜ present < slots ⌝ }
+    ensures { λ r. ⌜ StartMoved (now (words .entry)) (now (words .exit)) at oneBack r (endSlot at (startOn at (startIn (now (words .entry))) oneBack) present) ⌝ }
 {
     let _ = &words[..];
     let start = start_in(words);
@@ -116,13 +117,13 @@ fn entering_slot(words: &mut Words, at: Station, others: usize) -> usize
             words[START] = slot as u64;
             slot
         }
-        Station::B => slot_of(start, others),
+        Station::B => slot_of(start, present),
     }
 }
 
 // One more vehicle, at a station's end.
 pub fn insert(words: &mut Words, at: Station, v: Vehicle)
-    ensures { λ _. ⌜ LineBecomes (now (words .entry)) (now (words .exit)) (insertAt at v) (λ start. startOn at start 31) ⌝ }
+    ensures { λ _. ⌜ LineBecomes (now (words .entry)) (now (words .exit)) (insertAt at v) (λ start. startOn at start oneBack) ⌝ }
 {
     let present = present_in(words);
     words[LEN] = (present + 1) as u64;
@@ -179,7 +180,7 @@ pub fn nearest(words: &Words, at: Station) -> Vehicle
 
 // The place of the vehicle named, nearest A first, or the length of the line where it is not present.
 fn find(words: &Words, sender: Station, form: u16) -> usize
-    ensures { λ r. ⌜ (r ≡ findOf sender form (lineIn (now (words .entry)))) × (r ≤ 24) ⌝ }
+    ensures { λ r. ⌜ (r ≡ findOf sender form (lineOf (sectionIn (now (words .entry))))) × (r ≤ 24) ⌝ }
 {
     let present = present_in(words);
     let mut i = 0;
@@ -195,7 +196,7 @@ fn find(words: &Words, sender: Station, form: u16) -> usize
 // Whether the vehicle at place `i` and its neighbour towards B may meet: both present, OPEN or THROUGH, and heading towards one another.
 fn may_meet(words: &Words, i: usize) -> bool
     requires { ⌜ i ≤ 24 ⌝ }
-    ensures { λ r. ⌜ r ≡ mayMeet (lineIn (now (words .entry))) i ⌝ }
+    ensures { λ r. ⌜ r ≡ mayMeet (lineOf (sectionIn (now (words .entry)))) i ⌝ }
 {
     if present_in(words) <= i + 1 {
         return false;
@@ -219,7 +220,7 @@ fn met(v: Vehicle, to: Station) -> Vehicle
 
 // The vehicle at place `i` has met another, and heads to a station: that alters its first word.
 fn put_met(words: &mut Words, i: usize, to: Station)
-    requires { ⌜ i < presentIn (now words) ⌝ }
+    requires { ⌜ i < length (lineOf (sectionIn (now words))) ⌝ }
     ensures { λ _. ⌜ LineBecomes (now (words .entry)) (now (words .exit)) (turnAt to i) (λ start. start) ⌝ }
 {
     let _ = &words[..];

@@ -3,10 +3,10 @@
 use Rattle.words.proofs.Desks.{count-becomes}
 use Rattle.words.proofs.figures.count_refusal.Statement.{statement}
 use Rattle.words.proofs.figures.count_refusal.Tie as tie
-use Rattle.words.specs.Words.{oneMore, wordCount}
+use Rattle.words.specs.Words.{wordCount}
 use borrow.Author.Needs.{needs}
 use lib.ListN.{length}
-use mathlib.Core.Path.{_∙_, _≡_, ap}
+use mathlib.Core.Path.{_≡_}
 use native.Mathlib.Omega.{arith}
 
 returns : tie.Need-returns
@@ -14,7 +14,7 @@ returns c =
     let refused = c .before in
     let words = refused .before .before .before .before .args .words .now in
     let long : length words ≡ wordCount = search needs in
-    count-becomes words long (omega arith) (c .one-more .ensures ∙ ap oneMore (refused .refused .ensures))
+    count-becomes words long (omega arith) (refused .refused .ensures) (c .one-more-refused .ensures)
 
 pub count-refusal-spec : {M : Type 1} → statement M
 count-refusal-spec =

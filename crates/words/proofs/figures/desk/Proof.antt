@@ -16,7 +16,9 @@ returns c =
     let last = sent .before in
     let clock = last .before in
     let a = clock .before .args in
-    rw (desk-at (a .words .now) (a .at), clock .short-at .ensures, last .short-at2 .ensures, sent .byte-at .ensures, interval .interval-in .ensures, interval .before .word-at .ensures, out .word-at2 .ensures, guest .byte-at2 .ensures, asked .byte-at3 .ensures, holds .byte-at4 .ensures, c .byte-at5 .ensures)
+    rw (desk-at (a .words .now) (a .at), clock .short-at .ensures, last .short-at2 .ensures, sent .byte-at .ensures)
+    (rw (interval .interval-in .ensures, interval .before .word-at .ensures, out .word-at2 .ensures, guest .byte-at2 .ensures)
+    (rw (asked .byte-at3 .ensures, holds .byte-at4 .ensures, c .byte-at5 .ensures)))
 
 pub desk-spec : {M : Type 1} → statement M
 desk-spec =

@@ -13,13 +13,13 @@ use mathlib.Core.Path.{_≡_}
 use native.Mathlib.Omega.{arith}
 
 abbrev Inv-loop : tie.InvT-loop
-Inv-loop force count len places present words₀ i₀ words i = (i ≤ present) × (present ≤ 24) × OwnWords words (withLine (emptied force count) (take i places))
+Inv-loop force count len places present words₀ i₀ words i = (i ≤ present) × OwnWords words (withLine (emptied force count) (take i places))
 
 abbrev μ-loop : tie.MeasureT-loop
 μ-loop force count len places present words₀ i₀ words i = present - i
 
 loop-holds : tie.Need-loop-holds Inv-loop μ-loop
-loop-holds c = (omega arith, omega arith, c .emptied-words .ensures)
+loop-holds c = (omega arith, c .emptied-words .ensures)
 
 loop-again : tie.Need-loop-again Inv-loop μ-loop
 loop-again c =
@@ -27,7 +27,7 @@ loop-again c =
     let a = c .before .before .before .before .before .before .before .args in
     let places = a .t3 in
     let long : length places ≡ 24 = search needs in
-    (omega arith, l .inv .1, own-next (emptied (a .force) (a .count)) places (l .i) (l .inv .2) (omega arith) long (c .insert .ensures))
+    (omega arith, own-next (emptied (a .force) (a .count)) places (l .i) (l .inv .1) (omega arith) long (c .insert .ensures))
 
 returns : tie.Need-returns Inv-loop μ-loop
 returns c =
@@ -36,7 +36,7 @@ returns c =
     let places = a .t3 in
     let long : length places ≡ 24 = search needs in
     let all : l .i ≡ min (a .len) 24 = omega arith in
-    rw (all, take-present places (a .len) 24 long) at (l .inv .2)
+    rw (all, take-present places (a .len) 24 long) at (l .inv .1)
 
 pub line-words-spec : {M : Type 1} → statement M
 line-words-spec =

@@ -3,7 +3,7 @@
 use Prim.Native.Nat.{_%_, _+_}
 use Rattle.words.proofs.line.entering_slot.Statement.{statement}
 use Rattle.words.proofs.line.entering_slot.Tie as tie
-use Rattle.words.specs.Words.{slots}
+use Rattle.words.specs.Words.{oneBack, slots}
 use borrow.Author.Needs.{needs}
 use lib.ListN.{set}
 use lib.Seq.{set-getD}
@@ -13,7 +13,7 @@ returns : tie.Need-returns
 returns c =
     let begun = c .before .before .before in
     let a = begun .before .before .before .before .args in
-    let slot = c .slot-of .ensures .0 ∙ ap (λ k. (k + 31) % slots) (begun .start-in .ensures) in
+    let slot = c .slot-of .ensures .0 ∙ ap (λ k. (k + oneBack) % slots) (begun .start-in .ensures) in
     rw (c .before .enum-told .given .1) (record { stored = ap (set (a .words .now) 3) slot; at = slot; inside = c .slot-of .ensures .1 })
 
 returns-2 : tie.Need-returns-2
@@ -22,7 +22,7 @@ returns-2 c =
     let a = begun .before .before .before .before .args in
     rw (c .before .enum-told2 .given .1) (record {
       stored = sym (set-getD (a .words .now) 3 0);
-      at = c .slot-of2 .ensures .0 ∙ ap (λ k. (k + a .others) % slots) (begun .start-in .ensures);
+      at = c .slot-of2 .ensures .0 ∙ ap (λ k. (k + a .present) % slots) (begun .start-in .ensures);
       inside = c .slot-of2 .ensures .1;
     })
 

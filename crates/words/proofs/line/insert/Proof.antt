@@ -13,7 +13,7 @@ returns c =
     let slot = c .before .before in
     let present = slot .before .before in
     let a = present .before .before .args in
-    insert-becomes (a .at) (a .v) (a .words .now) (present .present-in .ensures) (slot .entering-slot .ensures) (c .put-vehicle .ensures)
+    insert-becomes (a .at) (a .v) (a .words .now) (present .present-in .ensures .0) (slot .entering-slot .ensures) (c .put-vehicle .ensures)
 
 pub insert-spec : {M : Type 1} → statement M
 insert-spec =

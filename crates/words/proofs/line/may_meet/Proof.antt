@@ -1,10 +1,10 @@
 -- `line::may_meet` meets its contract: off the line the first test fails, and on it the code joins the others in their order.
 -- Assumes nothing.
 use Prim.Native.Nat.{_+_, _<_}
-use Rattle.words.proofs.Lines.{line-length}
 use Rattle.words.proofs.line.may_meet.Statement.{statement}
 use Rattle.words.proofs.line.may_meet.Tie as tie
-use Rattle.words.specs.Words.{lineIn}
+use Rattle.words.specs.Words.{sectionIn}
+use Rattle.working.specs.Sections.{lineOf}
 use borrow.Author.Needs.{needs}
 use borrow.Author.Tests.{le-ltb, lt-ltb}
 use lib.ListN.{length}
@@ -15,15 +15,15 @@ use native.Mathlib.Omega.{arith}
 returns : tie.Need-returns
 returns c =
     let a = c .before .before .args in
-    rw (le-ltb (a .i + 1) (length (lineIn (a .words .now))) (omega (arith, line-length (a .words .now))))
+    rw (le-ltb (a .i + 1) (length (lineOf (sectionIn (a .words .now)))) (omega arith))
 
 returns-2 : tie.Need-returns-2
 returns-2 c =
     let second = c .before .before .before .before in
     let first = second .before in
     let a = first .before .before .before .args in
-    let l = lineIn (a .words .now) in
-    let on : a .i + 1 < length l = omega (arith, line-length (a .words .now)) in
+    let l = lineOf (sectionIn (a .words .now)) in
+    let on : a .i + 1 < length l = omega arith in
     simp (and-assoc, and-true) (rw (lt-ltb (a .i + 1) (length l) on, c .is-opener2 .ensures, c .before .is-opener .ensures, first .at-place .ensures, second .at-place2 .ensures))
 
 pub may-meet-spec : {M : Type 1} → statement M

@@ -4,7 +4,7 @@ use Prim.Native.Nat.{_%_, _*_, _+_}
 use Rattle.words.proofs.Ends.{met-becomes}
 use Rattle.words.proofs.line.put_met.Statement.{statement}
 use Rattle.words.proofs.line.put_met.Tie as tie
-use Rattle.words.specs.Words.{firstWord, ringAt, slots, wordCount}
+use Rattle.words.specs.Words.{firstWord, ringFrom, slots, wordCount}
 use Rattle.working.specs.Steps.{turned}
 use borrow.Author.Needs.{needs}
 use lib.ListN.{length, set}
@@ -23,7 +23,8 @@ returns c =
     let long : length w ≡ wordCount = search needs in
     let there = slot .slot-of .ensures .0 ∙ ap (λ k. (k + a .i) % slots) (start .start-in .ensures) in
     let word = c .first-word .ensures ∙ ap firstWord (met .met .ensures ∙ ap (turned (a .to)) (seen .vehicle-at .ensures)) in
-    met-becomes (a .to) (a .i) w (present .present-in .ensures) (begun .pre) there long (ap (set (set w 0 (present .present-in .result)) (ringAt + 2 * slot .slot-of .result)) word)
+    met-becomes (a .to) (a .i) w (present .present-in .ensures .0) (begun .pre) there long
+    (ap (set (set w 0 (present .present-in .result)) (ringFrom + 2 * slot .slot-of .result)) word)
 
 pub put-met-spec : {M : Type 1} → statement M
 put-met-spec =

@@ -4,7 +4,7 @@ use Prim.Native.Nat.{_-_}
 use Rattle.words.proofs.Ends.{remove-becomes}
 use Rattle.words.proofs.line.remove.Statement.{statement}
 use Rattle.words.proofs.line.remove.Tie as tie
-use Rattle.words.specs.Words.{VehiclePut}
+use Rattle.words.specs.Stores.{VehiclePut}
 use borrow.Author.Needs.{needs}
 use mathlib.Core.Path.{_∙_, ap}
 
@@ -17,7 +17,8 @@ returns c =
     let fewer = slot .before .before in
     let present = fewer .before in
     let a = present .before .before .args in
-    remove-becomes (a .at) (a .words .now) (fewer .fewer .ensures ∙ ap (λ n. n - 1) (present .present-in .ensures)) (slot .leaving-slot .ensures) (rw (c .before .unused .ensures) at (c .put-vehicle .ensures))
+    let others = fewer .fewer .ensures ∙ ap (λ n. n - 1) (present .present-in .ensures .0) in
+    remove-becomes (a .at) (a .words .now) others (slot .leaving-slot .ensures) (rw (c .before .unused .ensures) at (c .put-vehicle .ensures))
 
 pub remove-spec : {M : Type 1} → statement M
 remove-spec =

@@ -1,32 +1,29 @@
 -- What a step comes to, by cases, and that it leaves a well-made section well made, whatever the bytes.
 -- A refusal counts; BEGIN and RESUME empty the section; a departure puts a vehicle in at the station's end; a receipt takes one out there; MEET turns two.
 -- Assumes nothing.
-use Prim.Native.Nat.{ℕ, _<_, suc}
+use Prim.Native.Nat.{_<_, suc, ℕ}
 use Rattle.working.proofs.Line.{nearest-insert, remove-insert, split-end}
 use Rattle.working.proofs.Made.{Well, length-padTo, made-of, shape-of, shape-rest, well-far, well-insert, well-of, well-own}
 use Rattle.working.proofs.Meeting.{turn-left-on, well-turn}
 use Rattle.working.proofs.Plans.{Departs, Fate, arrives, departs, fate, refuses}
 use Rattle.working.proofs.Ranges.{Ranged, ranged-of}
 use Rattle.working.proofs.Receipts.{arrives-far, arrives-own}
-use Rattle.working.proofs.Tests.{NoneHolds, and, both, each-holds, false-true, none-holds, or-intro}
+use Rattle.working.proofs.Tests.{NoneHolds, both, each-holds, false-true, none-holds}
 use Rattle.working.specs.Acts as acts
 use Rattle.working.specs.Acts.{Act}
 use Rattle.working.specs.Departures.{departureBy}
 use Rattle.working.specs.Effects.{Arrive, Depart, Departing, Plan, arriveDesk, otherDesk, ownDesk}
-use Rattle.working.specs.Entries.{every}
 use Rattle.working.specs.Events.{At, Bad, Begin, Decoded, Event, Meet, Resume, Says, decode}
 use Rattle.working.specs.Reasons.{beginTests, findOf, isNamed, mayEnter, mayMeet, meetTests, meetingTests, resumeTests}
 use Rattle.working.specs.Refusals.{Test, firstOf}
 use Rattle.working.specs.Sections.{countRefusal, deskOf, emptied, insertAt, lineOf, nearestAt, numberAt, otherAt, padTo, removeAt, unused, withDesk, withLine}
 use Rattle.working.specs.Steps.{accepted, doneBy, entered, metAt, onDecoded, planOf, refused, settled, stepOf, turnAt}
-use Rattle.working.specs.WellMade.{isFrom, isOpener, movementTests, shaped, wellMade}
+use Rattle.working.specs.WellMade.{isFrom, isOpener, movementTests, wellMade}
 use Rattle.working.specs.declared.Answer.the-variants.{Accepted}
 use Rattle.working.specs.declared.Desk.{Desk}
-use Rattle.working.specs.declared.Movement.{Movement}
 use Rattle.working.specs.declared.Refusal.{Refusal}
 use Rattle.working.specs.declared.Section.{Section}
 use Rattle.working.specs.declared.Speed.the-variants.{NoSpeed}
-use Rattle.working.specs.declared.Speed.{Speed}
 use Rattle.working.specs.declared.Station.the-variants.{A, B}
 use Rattle.working.specs.declared.Station.{Station}
 use Rattle.working.specs.declared.Stepped.{Stepped}

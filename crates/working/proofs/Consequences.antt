@@ -1,7 +1,8 @@
 -- What each clause of demand 3 says of lists that are written out, drawn from the theorem. A clause gives first a fact of every list, over figures that nothing
 -- computes, so that a weaker clause does not give it; then come lists with document 01's figures in numbers.
 -- Assumes nothing.
-use Prim.Native.Nat.{ℕ, _%_, _+_, _<_}
+use Prim.Native.Nat.{_%_, _+_, _<_, ℕ}
+use Rattle.working.proofs.Computing.{step-computes}
 use Rattle.working.proofs.Demand3.{demand3}
 use Rattle.working.proofs.Lists.{Todo, after, done, runs}
 use Rattle.working.proofs.Literals.{begin, figures, opens, plain, receive, resume, returns, returnsAsking, sameSection, through, train, trainGranting, vehicle, working}
@@ -11,12 +12,9 @@ use Rattle.working.specs.Acts as acts
 use Rattle.working.specs.Demand3.{onTheWayTo, trainsOf, vehicleAt}
 use Rattle.working.specs.Departures.{Departure, Kind, OPEN, RETURN, THROUGH, TRAIN, departureOf, kindIn, leftSlowly}
 use Rattle.working.specs.Effects.{isSlow}
-use Rattle.working.specs.Entries.{entryIn, every, judge, lengthOf, mapFits, rangesHold, readAt}
-use Rattle.working.specs.Events.{decode}
+use Rattle.working.specs.Entries.{every}
 use Rattle.working.specs.Runs.{Done, Form, Run, byValue, inPlace, results}
-use Rattle.working.specs.Sections.{deskOf, emptied, fresh, freshDesk, numberAt, otherAt, padTo}
-use Rattle.working.specs.Steps.{entered, stepOf}
-use Rattle.working.specs.WellMade.{wellMade}
+use Rattle.working.specs.Sections.{deskOf, emptied, fresh, freshDesk, numberAt, otherAt}
 use Rattle.working.specs.declared.Answer.the-variants.{Accepted, Refused}
 use Rattle.working.specs.declared.Answer.{Answer}
 use Rattle.working.specs.declared.Interval.the-variants.{Since, Stopped}
@@ -81,7 +79,7 @@ each-fixed : {f g h : Form} {a b c : Answer} {s : Section}
     ∷ record { answer = plain; section = emptied true 1 }
     ∷ record { answer = Accepted 1 7 (Kmh 15); section = working 1 (vehicle (Open 2) 1 1 2 false 1 ∷ []) (figures 10 1 1 (Since 10) true 0 0 0 0) freshDesk }
     ∷ []
-unfolding stepOf wellMade decode readAt judge mapFits rangesHold entryIn lengthOf entered padTo
+unfolding step-computes
 each-fixed run = demand3 run .each
 
 -- ---- every vehicle present has its departure in the list, of the kind that its record says
@@ -106,7 +104,7 @@ each-kind : Left (opens 1 10 1 2 ∷ []) 0 (Open 2) (departure A OPEN 1 7 (Kmh 1
     × Left (granting A) 0 (Return 3 2) (departure B RETURN 1 182 Booked)
     × Left (following A) 1 (Train 0 0) (departure A TRAIN 2 168 Booked)
     × Left (following A) 0 (Train 0 3) (departure A TRAIN 3 108 (Kmh 25))
-unfolding stepOf wellMade decode readAt judge mapFits rangesHold entryIn lengthOf entered padTo
+unfolding step-computes
 each-kind = (
   left (opens 1 10 1 2 ∷ []) 0 1 refl (omega arith) refl refl,
   left (through 2 0 10 ∷ []) 0 1 refl (omega arith) refl refl,
@@ -120,7 +118,7 @@ abbrev twice : List (List ℕ)
 twice = opens 1 10 1 2 ∷ receive 1 11 1 1 ∷ resume ∷ begin ∷ through 1 0 5 ∷ []
 
 last-departure : Left twice 0 Through (departure A THROUGH 1 1 (Kmh 15))
-unfolding stepOf wellMade decode readAt judge mapFits rangesHold entryIn lengthOf entered padTo
+unfolding step-computes
 last-departure = left twice 0 1 refl (omega arith) refl refl
 
 -- ---- any two vehicles heading towards one another both left on T/B 602 at 15 km/h or less
@@ -196,13 +194,13 @@ three =
 
 neighbours-or-not : Opposed three 0 2 (departure A THROUGH 2 1 Walking) (departure B THROUGH 1 1 (Kmh 15))
     × Opposed three 1 2 (departure A THROUGH 1 1 (Kmh 10)) (departure B THROUGH 1 1 (Kmh 15))
-unfolding stepOf wellMade decode readAt judge mapFits rangesHold entryIn lengthOf entered padTo
+unfolding step-computes
 neighbours-or-not = (opposed three 0 2 3 refl (omega arith) (omega arith) refl refl refl refl, opposed three 1 2 3 refl (omega arith) (omega arith) refl refl refl refl)
 
 -- a THROUGH opposed to an OPEN, and an OPEN to a THROUGH
 through-and-open : Opposed (opens 1 5 3 2 ∷ through 2 0 9 ∷ []) 0 1 (departure A OPEN 1 7 Walking) (departure B THROUGH 1 1 (Kmh 15))
     × Opposed (opens 2 5 2 8 ∷ through 1 0 9 ∷ []) 0 1 (departure A THROUGH 1 1 (Kmh 15)) (departure B OPEN 1 7 (Kmh 10))
-unfolding stepOf wellMade decode readAt judge mapFits rangesHold entryIn lengthOf entered padTo
+unfolding step-computes
 through-and-open = (
   opposed (opens 1 5 3 2 ∷ through 2 0 9 ∷ []) 0 1 2 refl (omega arith) (omega arith) refl refl refl refl,
   opposed (opens 2 5 2 8 ∷ through 1 0 9 ∷ []) 0 1 2 refl (omega arith) (omega arith) refl refl refl refl,
@@ -252,7 +250,7 @@ either-station : (x : Station)
     × Owed (running x) (otherAt x) 2 1 1 0
     × Owed (following x) (otherAt x) 2 0 2 0
     × Owed (following x) x 3 0 0 3
-unfolding stepOf wellMade decode readAt judge mapFits rangesHold entryIn lengthOf entered padTo
+unfolding step-computes
 either-station A = (owed (granting A) B refl, owed (holding A) B refl, owed (running A) B refl, owed (following A) B refl, owed (following A) A refl)
 either-station B = (owed (granting B) A refl, owed (holding B) A refl, owed (running B) A refl, owed (following B) A refl, owed (following B) B refl)
 
@@ -295,7 +293,7 @@ takenBack = todos (begins ++ openB ∷ openA ∷ backB ∷ backA ∷ [])
 
 -- two receipts
 receipts-exchanged : Run fresh (begins ++ openB ∷ openA ∷ backA ∷ backB ∷ []) (after fresh takenBack)
-unfolding stepOf wellMade decode readAt judge mapFits rangesHold entryIn lengthOf entered padTo
+unfolding step-computes
 receipts-exchanged =
     demand3 (runs fresh takenBack) .swap (begins ++ openB ∷ openA ∷ []) backB backA [] B A (acts.Receive B 1) (acts.Receive A 1) refl
     (record { time = 2; entry = refl; accepted = refl })
@@ -305,7 +303,7 @@ receipts-exchanged =
 
 -- two departures, with the receipts of both behind them
 departures-exchanged : Run fresh (begins ++ openA ∷ openB ∷ backB ∷ backA ∷ []) (after fresh takenBack)
-unfolding stepOf wellMade decode readAt judge mapFits rangesHold entryIn lengthOf entered padTo
+unfolding step-computes
 departures-exchanged =
     demand3 (runs fresh takenBack) .swap begins openB openA (backB ∷ backA ∷ []) B A (acts.Open Impaired 2 6) (acts.Open Impaired 4 5) refl
     (record { time = 0; entry = refl; accepted = refl })
@@ -344,7 +342,7 @@ takenThenSent = todos (oneSent ++ firstTaken ∷ secondSent ∷ behind)
 -- a TRAIN and a RECEIVE, and the same two from the other order
 train-and-receipt-exchanged : Run fresh (oneSent ++ firstTaken ∷ secondSent ∷ behind) (after fresh sentThenTaken)
     × Run fresh (oneSent ++ secondSent ∷ firstTaken ∷ behind) (after fresh takenThenSent)
-unfolding stepOf wellMade decode readAt judge mapFits rangesHold entryIn lengthOf entered padTo
+unfolding step-computes
 train-and-receipt-exchanged = (
   demand3 (runs fresh sentThenTaken) .swap oneSent secondSent firstTaken behind A B (acts.Train Clear 0 0) (acts.Receive A 2) refl
       (record { time = 121; entry = refl; accepted = refl })
@@ -369,5 +367,5 @@ exchanged-ends :
     ∷ sameSection (after fresh takenThenSent) ended
     ∷ [])
     ≡ true
-unfolding stepOf wellMade decode readAt judge mapFits rangesHold entryIn lengthOf entered padTo
+unfolding step-computes
 exchanged-ends = refl

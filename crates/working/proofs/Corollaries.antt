@@ -1,7 +1,7 @@
 -- Of every list of steps from a fresh section: no step is refused with 5, since every section on the way is well made and no other test gives 5;
 -- and where a TRAIN of the other station is the nearest, the station owes a line clear, so that "not below 0" never acts.
 -- Assumes nothing.
-use Prim.Native.Nat.{ℕ, _+_, _<_}
+use Prim.Native.Nat.{_+_, _<_, ℕ}
 use Rattle.working.proofs.Changes.{step-is}
 use Rattle.working.proofs.Demand3.{kept}
 use Rattle.working.proofs.Found.{Found, cut, found, the-end, whole}

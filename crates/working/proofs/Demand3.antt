@@ -2,7 +2,7 @@
 -- After each step the section is well made, the invariant holds, and every vehicle present has its departure in the list so far; the claims at the end follow
 -- from these. Two neighbours change places because each reads and alters only its own desk and its own end of the line.
 -- Assumes nothing.
-use Prim.Native.Nat.{ℕ, _+_, _<_}
+use Prim.Native.Nat.{_+_, _<_, ℕ}
 use Rattle.working.proofs.Changes.{change}
 use Rattle.working.proofs.Kept.{Good, good-emptied, good-step}
 use Rattle.working.proofs.Line.{Every, every-at}

@@ -1,6 +1,7 @@
 -- Demand 3 is not empty: lists, by computation, with two opposed vehicles, with a line clear on the way, and with two neighbours that change places.
 -- Assumes nothing.
 use Prim.Native.Nat.{ℕ}
+use Rattle.working.proofs.Computing.{reading-computes, step-computes}
 use Rattle.working.proofs.Demand3.{demand3}
 use Rattle.working.proofs.Lists.{Todo, after, done, runs}
 use Rattle.working.proofs.Literals.{begin, opens, receive, returns}
@@ -8,12 +9,8 @@ use Rattle.working.proofs.Swap.{isReceive}
 use Rattle.working.proofs.Tests.{false-true}
 use Rattle.working.specs.Acts as acts
 use Rattle.working.specs.Demand3.{AcceptedAt, ReceivesIt, onTheWayTo, vehicleAt}
-use Rattle.working.specs.Entries.{entryIn, judge, lengthOf, mapFits, rangesHold, readAt}
-use Rattle.working.specs.Events.{decode}
 use Rattle.working.specs.Runs.{Done, Run, byValue, inPlace}
-use Rattle.working.specs.Sections.{deskOf, fresh, numberAt, padTo}
-use Rattle.working.specs.Steps.{entered, stepOf}
-use Rattle.working.specs.WellMade.{wellMade}
+use Rattle.working.specs.Sections.{deskOf, fresh, numberAt}
 use Rattle.working.specs.declared.Answer.the-variants.{Accepted}
 use Rattle.working.specs.declared.Speed.the-variants.{Kmh, NoSpeed, Walking}
 use Rattle.working.specs.declared.Station.the-variants.{A, B}
@@ -30,7 +27,7 @@ two = record { form = byValue; bytes = begin } ∷ record { form = inPlace; byte
 -- ---- two opposed vehicles
 
 opposed-there : (after fresh two .len ≡ 2) × (vehicleAt (after fresh two) 0 .heading ≡ numberAt B) × (vehicleAt (after fresh two) 1 .heading ≡ numberAt A)
-unfolding stepOf wellMade decode readAt judge mapFits rangesHold entryIn lengthOf entered padTo
+unfolding step-computes
 opposed-there = (refl, refl, refl)
 
 -- ---- a line clear on the way
@@ -42,7 +39,7 @@ granting =
     ∷ record { form = byValue; bytes = receive 2 60 1 1 } ∷ record { form = byValue; bytes = returns 2 61 2 } ∷ []
 
 on-the-way : (onTheWayTo (after fresh granting) A ≡ 2) × (deskOf (after fresh granting) B .clears .owes ≡ 2) × (after fresh granting .force ≡ true)
-unfolding stepOf wellMade decode readAt judge mapFits rangesHold entryIn lengthOf entered padTo
+unfolding step-computes
 on-the-way = (refl, refl, refl)
 
 -- ---- two neighbours that change places
@@ -57,15 +54,15 @@ abbrev begins : Done
 begins = record { form = byValue; bytes = begin; answer = Accepted 0 0 NoSpeed }
 
 is-list : done fresh two ≡ begins ∷ first ∷ second ∷ []
-unfolding stepOf wellMade decode readAt judge mapFits rangesHold entryIn lengthOf entered padTo
+unfolding step-computes
 is-list = refl
 
 first-accepted : AcceptedAt first A (acts.Open Clear 1 2)
-unfolding decode readAt judge mapFits rangesHold entryIn lengthOf
+unfolding reading-computes
 first-accepted = record { time = 5; entry = refl; accepted = refl }
 
 second-accepted : AcceptedAt second B (acts.Open Impaired 1 1)
-unfolding decode readAt judge mapFits rangesHold entryIn lengthOf
+unfolding reading-computes
 second-accepted = record { time = 9; entry = refl; accepted = refl }
 
 -- the list with the two in the other order ends in the same section

@@ -1,7 +1,7 @@
 -- Every step keeps the invariant: what it says of both stations' desks and of the vehicles between them.
 -- Each case of a step is one law of the invariant, over the station's own desk and the other's.
 -- Assumes nothing.
-use Prim.Native.Nat.{ℕ, _≤_, suc}
+use Prim.Native.Nat.{_≤_, suc, ℕ}
 use Rattle.working.proofs.Changes.{Change, Sound, arrival, change, departure, emptying, meeting, nearest-of, refusal, sound-emptied, sound-step, well-arrive, well-at, well-depart}
 use Rattle.working.proofs.Invariant.{Half, Halves}
 use Rattle.working.proofs.Line.{number-other, number-same}
@@ -19,9 +19,7 @@ use Rattle.working.specs.Sections.{deskOf, emptied, freshDesk, insertAt,
 use Rattle.working.specs.Steps.{metAt, stepOf, turnAt}
 use Rattle.working.specs.WellMade.{isFrom, isOpener, movementTests}
 use Rattle.working.specs.declared.Desk.{Desk}
-use Rattle.working.specs.declared.Movement.{Movement}
 use Rattle.working.specs.declared.Section.{Section}
-use Rattle.working.specs.declared.Speed.{Speed}
 use Rattle.working.specs.declared.Station.the-variants.{A, B}
 use Rattle.working.specs.declared.Station.{Station}
 use Rattle.working.specs.declared.Stepped.{Stepped}

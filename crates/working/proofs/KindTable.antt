@@ -3,13 +3,10 @@
 -- station may alter. A row has the section found, the bytes, the answer, and the section left, compared in every figure.
 -- Assumes nothing.
 use Prim.Native.Nat.{_+_, ℕ}
+use Rattle.working.proofs.Computing.{step-computes}
 use Rattle.working.proofs.Edges.{Edge, answersTo, expectedOf, refused, row, rowsLeavingAnother}
 use Rattle.working.proofs.Literals.{begin, figures, meet, opensAs, plain, receive, resume, vehicle, withClock, withOwes, working}
-use Rattle.working.specs.Entries.{entryIn, judge, lengthOf, mapFits, rangesHold, readAt}
-use Rattle.working.specs.Events.{decode}
 use Rattle.working.specs.Sections.{fresh, freshDesk, numberAt, otherAt, padTo}
-use Rattle.working.specs.Steps.{entered, stepOf}
-use Rattle.working.specs.WellMade.{wellMade}
 use Rattle.working.specs.declared.Answer.the-variants.{Accepted}
 use Rattle.working.specs.declared.Desk.{Desk}
 use Rattle.working.specs.declared.Interval.the-variants.{Since, Stopped}
@@ -234,9 +231,9 @@ abbrev kinds : List Edge
 kinds = declared ++ rowsFor A ++ rowsFor B
 
 pub kinds-hold : answersTo kinds ≡ expectedOf kinds
-unfolding stepOf wellMade decode readAt judge mapFits rangesHold entryIn lengthOf entered padTo
+unfolding step-computes
 kinds-hold = refl
 
 pub kinds-leave : rowsLeavingAnother 1 kinds ≡ []
-unfolding stepOf wellMade decode readAt judge mapFits rangesHold entryIn lengthOf entered padTo
+unfolding step-computes
 kinds-leave = refl

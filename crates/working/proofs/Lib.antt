@@ -1,5 +1,6 @@
 pub mod Bytes
 pub mod Changes
+pub mod Computing
 pub mod Consequences
 pub mod Corollaries
 pub mod Counted

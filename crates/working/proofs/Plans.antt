@@ -1,7 +1,7 @@
 -- What a station's act comes to: refused, a departure, or a receipt. Of a departure one record says all that later proofs use: the desk's figures, that the invariant is kept,
 -- and that an OPEN or THROUGH leaves on T/B 602 at 15 km/h or less. The tests that passed say the rest.
 -- Assumes nothing.
-use Prim.Native.Nat.{ℕ, _%_, _+_, _<_, _≤_}
+use Prim.Native.Nat.{_%_, _+_, _<_, _≤_, ℕ}
 use Rattle.working.proofs.Invariant.{Halves, isOpen, kept-opener, kept-return, kept-train, no-test}
 use Rattle.working.proofs.Ranges.{actTests}
 use Rattle.working.proofs.Tests.{Each, NoneHolds, and, every-holds, false-true, none-holds, none-of-both, or-intro, or-right}

@@ -1,7 +1,7 @@
 -- What a taken entry's ranges say of its act: the class and what is asked and granted lie where document 01 has them.
 -- The kind fixes which bits stand, and a field that is there lies in its range.
 -- Assumes nothing.
-use Prim.Native.Nat.{ℕ, _+_}
+use Prim.Native.Nat.{_+_, ℕ}
 use Rattle.working.proofs.Found.{Found, cut, found, the-end, whole}
 use Rattle.working.proofs.Tests.{Each, both, each-holds, none-holds}
 use Rattle.working.specs.Acts as acts

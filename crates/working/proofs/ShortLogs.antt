@@ -1,12 +1,9 @@
 -- Short logs of the second program's generator, and the answers that its lister gave, by computation on the definitions.
 -- Written by scripts/stored-logs; never by hand. Assumes nothing.
 use Prim.Native.Nat.{ℕ}
-use Rattle.working.specs.Entries.{entryIn, judge, lengthOf, mapFits, rangesHold, readAt}
-use Rattle.working.specs.Events.{decode}
-use Rattle.working.specs.Sections.{fresh, padTo}
-use Rattle.working.specs.Steps.{entered, stepOf}
-use Rattle.working.specs.Turns.{answersIn, turnsFrom, turnsOf}
-use Rattle.working.specs.WellMade.{wellMade}
+use Rattle.working.proofs.Computing.{turns-compute}
+use Rattle.working.specs.Sections.{fresh}
+use Rattle.working.specs.Turns.{answersIn, turnsOf}
 use Rattle.working.specs.declared.Answer.the-variants.{Accepted, Refused}
 use Rattle.working.specs.declared.Refusal.the-variants.{AlreadyInForce, BeforeClock, EndsInside, MayNotEnter, NoLineClear, NotInForce, NotNearest, OutOfRange, UnknownKind, VehiclePresent, WrongMap}
 use Rattle.working.specs.declared.Speed.the-variants.{Booked, Kmh, NoSpeed, Walking}
@@ -53,7 +50,7 @@ answers-3 : answersIn (turnsOf fresh log-3) ≡
     ∷ Accepted 7 106 (Kmh 10)
     ∷ Accepted 0 0 NoSpeed
     ∷ []
-unfolding turnsFrom stepOf wellMade decode readAt judge mapFits rangesHold entryIn lengthOf entered padTo
+unfolding turns-compute
 answers-3 = refl
 
 abbrev log-8 : List ℕ
@@ -96,7 +93,7 @@ answers-8 : answersIn (turnsOf fresh log-8) ≡
     ∷ Accepted 9 1 Walking
     ∷ Refused EndsInside
     ∷ []
-unfolding turnsFrom stepOf wellMade decode readAt judge mapFits rangesHold entryIn lengthOf entered padTo
+unfolding turns-compute
 answers-8 = refl
 
 abbrev log-21 : List ℕ
@@ -139,7 +136,7 @@ answers-21 : answersIn (turnsOf fresh log-21) ≡
     ∷ Refused UnknownKind
     ∷ Refused EndsInside
     ∷ []
-unfolding turnsFrom stepOf wellMade decode readAt judge mapFits rangesHold entryIn lengthOf entered padTo
+unfolding turns-compute
 answers-21 = refl
 
 abbrev log-34 : List ℕ
@@ -182,5 +179,5 @@ answers-34 : answersIn (turnsOf fresh log-34) ≡
     ∷ Accepted 8 7 (Kmh 10)
     ∷ Refused AlreadyInForce
     ∷ []
-unfolding turnsFrom stepOf wellMade decode readAt judge mapFits rangesHold entryIn lengthOf entered padTo
+unfolding turns-compute
 answers-34 = refl

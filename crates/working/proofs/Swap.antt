@@ -2,7 +2,7 @@
 -- Each reads and alters its own desk and its own end of the line. They could meet only in a line of one vehicle: a departure into an empty line and its receipt
 -- at the other end, which is excluded, or two receipts of one vehicle, of which the second would be refused. It holds on every well-made section.
 -- Assumes nothing.
-use Prim.Native.Nat.{ℕ, _+_, _<_, _≤_, suc}
+use Prim.Native.Nat.{_+_, _<_, _≤_, suc, ℕ}
 use Rattle.working.proofs.Changes.{Sound, named-there, sound-step, step-is, well-at}
 use Rattle.working.proofs.Line.{insert-length, length-remove, nearest-insert, remove-insert, split-end}
 use Rattle.working.proofs.Made.{line-after, room-of}

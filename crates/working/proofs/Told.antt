@@ -1,7 +1,7 @@
 -- Each vehicle present has its departure in the list of steps, of the kind that its record says; an OPEN or THROUGH left on T/B 602 at 15 km/h or less.
 -- A step that is no accepted departure adds none; one that is takes a form number that no vehicle present has.
 -- Assumes nothing.
-use Prim.Native.Nat.{ℕ, _+_, _≤_, suc}
+use Prim.Native.Nat.{_+_, _≤_, suc, ℕ}
 use Rattle.working.proofs.Changes.{Change, Sound, arrival, departure, emptying, meeting, nearest-of, refusal, well-arrive, well-at, well-depart}
 use Rattle.working.proofs.Invariant.{granted, trainOne, trains}
 use Rattle.working.proofs.Line.{Every, every-insert, every-map, every-rest, every-turn, number-same}
@@ -20,11 +20,8 @@ use Rattle.working.specs.Sections.{deskOf, insertAt, lineOf, numberAt}
 use Rattle.working.specs.Steps.{metAt, turnAt, turned}
 use Rattle.working.specs.WellMade.{all, isFrom, isOpener, numbered, oneIf, sumOver}
 use Rattle.working.specs.declared.Answer.the-variants.{Accepted, Refused}
-use Rattle.working.specs.declared.Desk.{Desk}
-use Rattle.working.specs.declared.Movement.{Movement}
 use Rattle.working.specs.declared.Refusal.{Refusal}
 use Rattle.working.specs.declared.Section.{Section}
-use Rattle.working.specs.declared.Speed.{Speed}
 use Rattle.working.specs.declared.Station.the-variants.{A}
 use Rattle.working.specs.declared.Station.{Station}
 use Rattle.working.specs.declared.Stepped.{Stepped}

@@ -1,4 +1,5 @@
--- A pass from B's end to A's: at place i it has what a definition by recursion says of the vehicles from place i on.
+-- A pass down, from B's end to A's: at place i it has what a definition by recursion says of the vehicles from place i on. It begins with none, takes in the one
+-- before, and ends at the first that it is asked about.
 -- Assumes nothing.
 use Prim.Native.Nat.{_+_, _-_, _<_, _≤_, min, suc, ℕ}
 use lib.ListN.{drop, drop-of-length-le, getD, length, take}
@@ -25,6 +26,26 @@ module _ {A : Type 0} (l : List A) (n : ℕ) (fits : n ≤ length l) where
   drop-down i d p h =
       drop-back (take n l) i d p (omega (arith, length-take-le n l fits))
       ∙ ap (λ (x : A). x ∷ drop i (take n l)) (getD-take n l (i - 1) d (omega arith))
+
+-- ---- the pass
+
+-- over the first n places of l, down to place `from`, now at place i: what `of` says of those passed
+pub record Pass {T R : Type 0} (of : List T → R) (l : List T) (from n i : ℕ) (told : R) : Type 0 where
+  pub within : i ≤ n
+  pub left : from ≤ i
+  pub says : told ≡ of (drop i (take n l))
+
+module _ {T R : Type 0} (of : List T → R) (l : List T) (from n : ℕ) (fits : n ≤ length l) where
+  pub begins : from ≤ n → {told : R} → told ≡ of [] → Pass of l from n n told
+  begins less h = record { within = omega arith; left = less; says = h ∙ ap of (sym (drop-end l n fits)) }
+
+  pub goes-on : {i : ℕ} {told next : R} → Pass of l from n i told → from < i → (d : T) → next ≡ of (getD l (i - 1) d ∷ drop i (take n l)) → Pass of l from n (i - 1) next
+  goes-on {i} p less d h = record { within = omega arith; left = omega arith; says = h ∙ ap of (sym (drop-down l n fits i d (omega arith) (p .within))) }
+
+  pub ends : {i : ℕ} {told : R} → Pass of l from n i told → i ≤ from → told ≡ of (drop from (take n l))
+  ends {i} p most = let done : i ≡ from = omega arith in rw done at (p .says)
+
+-- ---- a place that is looked for
 
 -- a length beyond the last place is as good as the number of places
 pub take-present : {A : Type 0} (l : List A) (n k : ℕ) → length l ≡ k → take (min n k) l ≡ take n l

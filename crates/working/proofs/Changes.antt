@@ -2,23 +2,25 @@
 -- A refusal counts; BEGIN and RESUME empty the section; a departure puts a vehicle in at the station's end; a receipt takes one out there; MEET turns two.
 -- Assumes nothing.
 use Prim.Native.Nat.{_<_, suc, ℕ}
+use Rattle.working.proofs.Clauses.{shape-of}
 use Rattle.working.proofs.Line.{nearest-insert, remove-insert, split-end}
-use Rattle.working.proofs.Made.{Well, length-padTo, made-of, shape-of, shape-rest, well-far, well-insert, well-of, well-own}
+use Rattle.working.proofs.Made.{Well, length-padTo, made-of, shape-rest, well-far, well-insert, well-of, well-own}
 use Rattle.working.proofs.Meeting.{turn-left-on, well-turn}
 use Rattle.working.proofs.Plans.{Departs, Fate, arrives, departs, fate, refuses}
 use Rattle.working.proofs.Ranges.{Ranged, ranged-of}
-use Rattle.working.proofs.Receipts.{arrives-far, arrives-own}
-use Rattle.working.proofs.Tests.{NoneHolds, both, each-holds, false-true, none-holds}
+use Rattle.working.proofs.Reasons.{meet-passes, meets}
+use Rattle.working.proofs.Receipts.{Receipt, arrives-far, arrives-own, far, own, receipt}
+use Rattle.working.proofs.Tests.{NoneHolds, none-holds}
 use Rattle.working.specs.Acts as acts
 use Rattle.working.specs.Acts.{Act}
 use Rattle.working.specs.Departures.{departureBy}
 use Rattle.working.specs.Effects.{Arrive, Depart, Departing, Plan, arriveDesk, otherDesk, ownDesk}
 use Rattle.working.specs.Events.{At, Bad, Begin, Decoded, Event, Meet, Resume, Says, decode}
-use Rattle.working.specs.Reasons.{beginTests, findOf, isNamed, mayEnter, mayMeet, meetTests, meetingTests, resumeTests}
+use Rattle.working.specs.Reasons.{beginTests, findOf, isNamed, mayEnter, mayMeet, meetTests, resumeTests}
 use Rattle.working.specs.Refusals.{Test, firstOf}
-use Rattle.working.specs.Sections.{countRefusal, deskOf, emptied, insertAt, lineOf, nearestAt, numberAt, otherAt, padTo, removeAt, unused, withDesk, withLine}
+use Rattle.working.specs.Sections.{countRefusal, deskOf, emptied, insertAt, lineOf, nearestAt, otherAt, padTo, removeAt, withDesk, withLine}
 use Rattle.working.specs.Steps.{accepted, doneBy, entered, metAt, onDecoded, planOf, refused, settled, stepOf, turnAt}
-use Rattle.working.specs.WellMade.{isFrom, isOpener, movementTests, wellMade}
+use Rattle.working.specs.WellMade.{wellMade}
 use Rattle.working.specs.declared.Answer.the-variants.{Accepted}
 use Rattle.working.specs.declared.Desk.{Desk}
 use Rattle.working.specs.declared.Refusal.{Refusal}
@@ -30,14 +32,11 @@ use Rattle.working.specs.declared.Stepped.{Stepped}
 use Rattle.working.specs.declared.Vehicle.{Vehicle}
 use Rattle.working.specs.declared.Verdict.the-variants.{Allowed, Refused}
 use Rattle.working.specs.declared.Verdict.{Verdict}
-use borrow.Author.Tests.{not-false}
-use lib.Dec.{eqb}
-use lib.ListN.{getD, length}
-use mathlib.Core.Bool.{Bool, _&&_, _||_, cond, false, not, true}
+use lib.ListN.{length}
+use mathlib.Core.Bool.{Bool, false, false≢true, true}
 use mathlib.Core.List.{List, [], _∷_}
 use mathlib.Core.Option.{Option}
 use mathlib.Core.Path.{_∙_, _≡_, ap, refl}
-use native.Mathlib.Numerals.{add-one}
 use native.Mathlib.Omega.{arith}
 
 -- a section of 24 places that is well made; the places are what the array's type says
@@ -85,7 +84,7 @@ changed s (At x time act) g r =
 changed s (Meet x y k) g r =
     let i = findOf y k (lineOf s) in
     settled-elim s (Change s (Says (Meet x y k))) (meetTests (s .force) (lineOf s) i) (withLine s (metAt x i (lineOf s))) (refusal (Says (Meet x y k)))
-    (λ n. meeting x y k i (not-false (s .force) (n .0)) (not-false (mayMeet (lineOf s) i) (n .1 .0)))
+    (λ n. let p = meet-passes (s .force) (lineOf s) i n in meeting x y k i (p .begun) (p .may))
 changed s Resume g r =
     settled-elim s (Change s (Says Resume)) (resumeTests (s .force) (s .len)) (emptied false (s .refused)) (refusal (Says Resume))
     (λ n. emptying (Says Resume) false refl)
@@ -113,22 +112,20 @@ sound-with s x e l f w = record { places = places x; well = made-of s x e l f w 
 
 pub well-depart : (s : Section) (act : Act) (x : Station) (p : Departing) → Sound s → Departs act x (deskOf s x) p
     → Well x (p .desk) (deskOf s (otherAt x)) (insertAt x (p .vehicle) (lineOf s))
-well-depart s act x p g q =
-    well-insert x (deskOf s x) (deskOf s (otherAt x)) (p .desk) (p .vehicle) (lineOf s) (well-at s x g)
-    (q .sender) (q .form) (q .shape) (q .last) (q .sent) (q .room) (q .unused) (q .bounds)
+well-depart s act x p g q = well-insert act x (deskOf s x) (deskOf s (otherAt x)) p (lineOf s) (well-at s x g) q
 
 -- the vehicle that a RECEIVE names is there
 pub named-there : (y : Station) (n : ℕ) (x : Station) (l : List Vehicle) → isNamed y n (nearestAt x l) ≡ true → 0 < length l
 named-there y n x (v ∷ l) h = omega arith
-named-there A n A [] h = absurd (false-true h)
-named-there B n A [] h = absurd (false-true h)
-named-there A n B [] h = absurd (false-true h)
-named-there B n B [] h = absurd (false-true h)
+named-there A n A [] h = absurd (false≢true h)
+named-there B n A [] h = absurd (false≢true h)
+named-there A n B [] h = absurd (false≢true h)
+named-there B n B [] h = absurd (false≢true h)
 
 -- a receipt of v, which stands at x's end before the vehicles l
 pub well-arrive : (s : Section) (x : Station) (time : ℕ) (v : Vehicle) (l : List Vehicle) → Sound s → lineOf s ≡ insertAt x v l → mayEnter x v ≡ true
     → Well x (arriveDesk x (deskOf s x) time v) (deskOf s (otherAt x)) l
-well-arrive s x time v l g e may = go (isFrom (numberAt x) v) refl
+well-arrive s x time v l g e may = by (receipt x d time v may)
   where
     d : Desk
     d = deskOf s x
@@ -139,14 +136,11 @@ well-arrive s x time v l g e may = go (isFrom (numberAt x) v) refl
     w : Well x d o (insertAt x v l)
     w = rw e at (well-at s x g)
 
-    go : (own : Bool) → isFrom (numberAt x) v ≡ own → Well x (cond own (ownDesk d time (v .movement)) (otherDesk d time (v .class) (v .movement))) o l
-    go true is =
-        let q : (isOpener (v .movement) && (not (v .met) || eqb (v .heading) (numberAt x))) ≡ true = rw is at may in
-        let opener = both (isOpener (v .movement)) (not (v .met) || eqb (v .heading) (numberAt x)) q .0 in
-        well-own x d o (ownDesk d time (v .movement)) v l w is (arrives-own d time (v .movement) opener (w .own .bounds) .0)
-    go false is =
-        let moves = each-holds (movementTests (v .movement) (v .class)) (shape-of v (shape-rest x d o d v l w .0) .moves) in
-        well-far x d o (otherDesk d time (v .class) (v .movement)) v l w is (arrives-far d time (v .class) (v .movement) moves (w .own .bounds) .0)
+    by : {e : Desk} → Receipt x d time v e → Well x e o l
+    by (own is opener) = well-own x d o (ownDesk d time (v .movement)) v l w is (arrives-own d time (v .movement) opener (w .own .bounds))
+    by (far is) =
+        let moves = shape-of v (shape-rest x d o d v l w .0) .moves in
+        well-far x d o (otherDesk d time (v .class) (v .movement)) v l w is (arrives-far d time (v .class) (v .movement) moves (w .own .bounds))
 
 -- the line taken apart at the end of a station whose nearest vehicle is named
 pub record Nearest (x : Station) (l : List Vehicle) : Type 0 where
@@ -177,10 +171,9 @@ sound-arrive s x time y n g f named may =
 
 sound-meet : (s : Section) (x : Station) (i : ℕ) → Sound s → s .force ≡ true → mayMeet (lineOf s) i ≡ true → Sound (withLine s (metAt x i (lineOf s)))
 sound-meet s x i g f h =
-    let e = each-holds (meetingTests (lineOf s) i) h in
-    let first = well-turn x A (s .a) (s .b) i (lineOf s) (well-at s A g) (e .1 .1 .1 .0) in
-    let opener : isOpener (getD (lineOf s) (suc i) unused .movement) ≡ true = rw add-one at (e .1 .1 .1 .1 .0) in
-    let second = well-turn x A (s .a) (s .b) (suc i) (turnAt x i (lineOf s)) first (rw (turn-left-on x i (suc i) (lineOf s)) opener) in
+    let m = meets (lineOf s) i h in
+    let first = well-turn x A (s .a) (s .b) i (lineOf s) (well-at s A g) (m .first) in
+    let second = well-turn x A (s .a) (s .b) (suc i) (turnAt x i (lineOf s)) first (rw (turn-left-on x i (suc i) (lineOf s)) (m .second)) in
     sound-with s A (s .a) (metAt x i (lineOf s)) f second
 
 pub sound-emptied : (force : Bool) (n : ℕ) → Sound (emptied force n)

@@ -7,7 +7,7 @@ use Rattle.working.proofs.Demand3.{demand3}
 use Rattle.working.proofs.Lists.{Todo, after, done, runs}
 use Rattle.working.proofs.Literals.{begin, figures, opens, plain, receive, resume, returns, returnsAsking, sameSection, through, train, trainGranting, vehicle, working}
 use Rattle.working.proofs.Swap.{isReceive}
-use Rattle.working.proofs.Tests.{both, false-true}
+use Rattle.working.proofs.Tests.{both}
 use Rattle.working.specs.Acts as acts
 use Rattle.working.specs.Demand3.{onTheWayTo, trainsOf, vehicleAt}
 use Rattle.working.specs.Departures.{Departure, Kind, OPEN, RETURN, THROUGH, TRAIN, departureOf, kindIn, leftSlowly}
@@ -30,7 +30,7 @@ use Rattle.working.specs.declared.Vehicle.{Vehicle}
 use Rattle.working.specs.declared.View.the-variants.{Clear, Impaired}
 use borrow.Author.Tests.{eqb-true}
 use lib.Dec.{eqb}
-use mathlib.Core.Bool.{Bool, _||_, false, true}
+use mathlib.Core.Bool.{Bool, _||_, false, false≢true, true}
 use mathlib.Core.List.{List, [], _++_, _∷_}
 use mathlib.Core.Option.{Option, none, some}
 use mathlib.Core.Path.{_∙_, _≡_, ap, refl}
@@ -151,14 +151,14 @@ data Slow : Speed → Type 0 where
   walking : Slow Walking
 
 slow : (v : Speed) → isSlow v ≡ true → Slow v
-slow NoSpeed e = absurd (false-true e)
+slow NoSpeed e = absurd (false≢true e)
 slow Walking e = walking
 slow (Kmh k) e = by (eqb k 15) refl e
   where
     by : (b : Bool) → eqb k 15 ≡ b → (b || eqb k 10) ≡ true → Slow (Kmh k)
     by true is e = rw (eqb-true k 15 is) at-15
     by false is e = rw (eqb-true k 10 e) at-10
-slow Booked e = absurd (false-true e)
+slow Booked e = absurd (false≢true e)
 
 -- on T/B 602, the 1 of the sum, at one of the three speeds
 abbrev OnTB602 : Departure → Type 0
@@ -299,7 +299,7 @@ receipts-exchanged =
     (record { time = 2; entry = refl; accepted = refl })
     (record { time = 1; entry = refl; accepted = refl })
     B-not-A
-    (λ r. false-true (r .0))
+    (λ r. false≢true (r .0))
 
 -- two departures, with the receipts of both behind them
 departures-exchanged : Run fresh (begins ++ openA ∷ openB ∷ backB ∷ backA ∷ []) (after fresh takenBack)
@@ -309,7 +309,7 @@ departures-exchanged =
     (record { time = 0; entry = refl; accepted = refl })
     (record { time = 0; entry = refl; accepted = refl })
     B-not-A
-    (λ r. false-true (ap isReceive (r .1)))
+    (λ r. false≢true (ap isReceive (r .1)))
 
 -- behind no bytes, which are refused, A opens, holds two line clears and sends its first train. A's second train and B's receipt of the first are neighbours, and
 -- behind them come B's receipt of the second, bytes that are no entry, and a THROUGH of B.
@@ -353,7 +353,7 @@ train-and-receipt-exchanged = (
       (record { time = 115; entry = refl; accepted = refl })
       (record { time = 121; entry = refl; accepted = refl })
       B-not-A
-      (λ r. false-true (r .0)),
+      (λ r. false≢true (r .0)),
 )
 
 -- the sections that these lists end in, in figures

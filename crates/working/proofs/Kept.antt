@@ -3,30 +3,29 @@
 -- Assumes nothing.
 use Prim.Native.Nat.{_≤_, suc, ℕ}
 use Rattle.working.proofs.Changes.{Change, Sound, arrival, change, departure, emptying, meeting, nearest-of, refusal, sound-emptied, sound-step, well-arrive, well-at, well-depart}
-use Rattle.working.proofs.Invariant.{Half, Halves}
+use Rattle.working.proofs.Clauses.{shape-of}
+use Rattle.working.proofs.Invariant.{Half, Halves, quiet}
 use Rattle.working.proofs.Line.{number-other, number-same}
-use Rattle.working.proofs.Made.{Well, all-far, line-with, not-other, other-sender, shape-of, shape-rest}
+use Rattle.working.proofs.Made.{Well, all-far, line-with, not-other, other-sender, shape-rest}
 use Rattle.working.proofs.Meeting.{turn-length}
 use Rattle.working.proofs.Plans.{Departs}
-use Rattle.working.proofs.Receipts.{arrives-far, arrives-own}
+use Rattle.working.proofs.Receipts.{Receipt, far, keeps-far, keeps-own, own, receipt}
 use Rattle.working.proofs.Sides.{moves-far, moves-none, moves-own, moves-past, moves-skip, moves-turned, movesOf}
-use Rattle.working.proofs.Tests.{both, each-holds}
 use Rattle.working.specs.Acts.{Act}
-use Rattle.working.specs.Effects.{Departing, arriveDesk, otherDesk, ownDesk}
+use Rattle.working.specs.Effects.{Departing, arriveDesk}
 use Rattle.working.specs.Events.{Decoded, decode}
 use Rattle.working.specs.Reasons.{mayEnter}
 use Rattle.working.specs.Sections.{deskOf, emptied, freshDesk, insertAt, lineOf, numberAt, otherAt, withDesk, withLine}
 use Rattle.working.specs.Steps.{metAt, stepOf, turnAt}
-use Rattle.working.specs.WellMade.{isFrom, isOpener, movementTests}
+use Rattle.working.specs.WellMade.{isFrom}
 use Rattle.working.specs.declared.Desk.{Desk}
 use Rattle.working.specs.declared.Section.{Section}
 use Rattle.working.specs.declared.Station.the-variants.{A, B}
 use Rattle.working.specs.declared.Station.{Station}
 use Rattle.working.specs.declared.Stepped.{Stepped}
 use Rattle.working.specs.declared.Vehicle.{Vehicle}
-use lib.Dec.{eqb}
 use lib.ListN.{length}
-use mathlib.Core.Bool.{Bool, _&&_, _||_, cond, false, not, true}
+use mathlib.Core.Bool.{Bool, false, true}
 use mathlib.Core.List.{List, []}
 use mathlib.Core.Path.{_≡_, refl}
 use native.Mathlib.Omega.{arith}
@@ -59,7 +58,7 @@ kept-depart s act x p g q =
 
 kept-arrive : (s : Section) (x : Station) (time : ℕ) (v : Vehicle) (l : List Vehicle) → Good s → lineOf s ≡ insertAt x v l → mayEnter x v ≡ true
     → Between x (arriveDesk x (deskOf s x) time v) (deskOf s (otherAt x)) l
-kept-arrive s x time v l g e may = go (isFrom (numberAt x) v) refl
+kept-arrive s x time v l g e may = by (receipt x d time v may)
   where
     d : Desk
     d = deskOf s x
@@ -73,18 +72,14 @@ kept-arrive s x time v l g e may = go (isFrom (numberAt x) v) refl
     k : Between x d o (insertAt x v l)
     k = rw e at (kept-at x s g)
 
-    go : (own : Bool) → isFrom (numberAt x) v ≡ own → Between x (cond own (ownDesk d time (v .movement)) (otherDesk d time (v .class) (v .movement))) o l
-    go true is =
-        let q : (isOpener (v .movement) && (not (v .met) || eqb (v .heading) (numberAt x))) ≡ true = rw is at may in
-        let opener = both (isOpener (v .movement)) (not (v .met) || eqb (v .heading) (numberAt x)) q .0 in
-        arrives-own d time (v .movement) opener (w .own .bounds) .1 o (movesOf x l) (movesOf (otherAt x) l)
-        (rw (moves-own x v l is, moves-past x v l (not-other x v is)) at k)
-    go false is =
+    by : {e : Desk} → Receipt x d time v e → Between x e o l
+    by (own is opener) =
+        keeps-own d o time (v .movement) (movesOf x l) (movesOf (otherAt x) l) opener (rw (moves-own x v l is, moves-past x v l (not-other x v is)) at k)
+    by (far is) =
         let shape = shape-rest x d o d v l w .0 in
-        let moves = each-holds (movementTests (v .movement) (v .class)) (shape-of v shape .moves) in
         let none-own = moves-none x l (all-far x d o d v l w is) in
         rw none-own
-        (arrives-far d time (v .class) (v .movement) moves (w .own .bounds) .1 o (movesOf (otherAt x) l)
+        (keeps-far d o time (v .class) (v .movement) (movesOf (otherAt x) l) (shape-of v shape .moves)
         (rw (moves-skip x v l is, none-own, moves-far x v l (other-sender x v shape is)) at k))
 
 -- nothing in the section, and nothing on the desks
@@ -92,7 +87,7 @@ kept-emptied : Between A freshDesk freshDesk []
 kept-emptied = record { own = half; far = half }
   where
     half : Half freshDesk freshDesk [] []
-    half = record { sum = refl; outs = refl; guests = λ k. absurd (omega arith); holding = λ k. absurd (omega arith); row = refl; clear = refl }
+    half = quiet refl refl refl refl refl refl
 
 kept-change : (s : Section) (e : Decoded) (r : Stepped) → Good s → Change s e r → Between A (r .section .a) (r .section .b) (lineOf (r .section))
 kept-change s e r g (refusal k why) = g .kept

@@ -1,5 +1,6 @@
 pub mod Bytes
 pub mod Changes
+pub mod Clauses
 pub mod Computing
 pub mod Consequences
 pub mod Corollaries
@@ -30,6 +31,7 @@ pub mod Ranges
 pub mod ReadAgain
 pub mod ReadThenWritten
 pub mod ReadingEnds
+pub mod Reasons
 pub mod Receipts
 pub mod Scans
 pub mod Sentences

@@ -2,7 +2,7 @@
 -- By cases on the station, A at the front of the list and B at its back.
 -- Assumes nothing.
 use Prim.Native.Nat.{_+_, _-_, _<_, suc, zero, ℕ}
-use Rattle.working.proofs.Tests.{both, false-true}
+use Rattle.working.proofs.Tests.{and, both}
 use Rattle.working.specs.Sections.{insertAt, nearestAt, numberAt, otherAt, removeAt, unused}
 use Rattle.working.specs.Steps.{turnAt, turned}
 use Rattle.working.specs.WellMade.{all, differ, isFrom, ordered, same, sumOver}
@@ -13,7 +13,7 @@ use borrow.Author.Tests.{eq-eqb, eqb-false, eqb-true, ne-eqb}
 use lib.Dec.{eqb}
 use lib.ListN.{getD, length, length-append}
 use lib.Seq.{getD-append-seam, take-append-seam}
-use mathlib.Core.Bool.{Bool, _&&_, cond, false, not, true}
+use mathlib.Core.Bool.{Bool, _&&_, cond, false, false≢true, not, true}
 use mathlib.Core.List.{List, [], _++_, _∷_}
 use mathlib.Core.Path.{_∙_, _≡_, ap, ap₂, refl, sym}
 use native.Mathlib.Omega.{arith}
@@ -70,11 +70,11 @@ length-remove x l h =
     let rest : removeAt x l ≡ q .1 = ap (removeAt x) (q .2) ∙ remove-insert x (q .0) (q .1) in
     omega (arith, ap length rest, ap length (q .2), insert-length x (q .0) (q .1))
 
-pub insert-comm : (x : Station) (v w : Vehicle) (l : List Vehicle) → insertAt x v (insertAt (otherAt x) w l) ≡ insertAt (otherAt x) w (insertAt x v l)
-insert-comm A v w l = refl
-insert-comm B v w l = refl
-
 -- ---- predicates on the line
+
+pub all-map : (p q : Vehicle → Bool) → ((v : Vehicle) → p v ≡ true → q v ≡ true) → (l : List Vehicle) → all p l ≡ true → all q l ≡ true
+all-map p q f [] h = refl
+all-map p q f (v ∷ l) h = let k = both (p v) (all p l) h in and (q v) (all q l) (f v (k .0)) (all-map p q f l (k .1))
 
 pub all-insert : (p : Vehicle → Bool) (x : Station) (v : Vehicle) (l : List Vehicle) → all p (insertAt x v l) ≡ (p v && all p l)
 all-insert p A v l = refl
@@ -146,7 +146,7 @@ ordered-far B v (u ∷ l) e h = go (λ k. ordered-far B v l e k) (isFrom 1 u) re
     go more false p =
         let q : (isFrom 2 u && all (isFrom 2) (l ++ v ∷ [])) ≡ true = rw p at h in
         let r : (isFrom 2 v && all (isFrom 2) l) ≡ true = rw (all-insert (isFrom 2) B v l) at (both (isFrom 2 u) (all (isFrom 2) (l ++ v ∷ [])) q .1) in
-        absurd (false-true (sym e ∙ both (isFrom 2 v) (all (isFrom 2) l) r .0))
+        absurd (false≢true (sym e ∙ both (isFrom 2 v) (all (isFrom 2) l) r .0))
 
 -- ---- a statement about every vehicle of a line
 

@@ -1,7 +1,8 @@
 -- MEET alters heading and met alone: every clause that reads neither stays, and the two vehicles, OPEN or THROUGH, stay well made.
 -- Assumes nothing.
 use Prim.Native.Nat.{_+_, suc, zero, ℕ}
-use Rattle.working.proofs.Made.{DeskMade, Well, shape-of}
+use Rattle.working.proofs.Clauses.{DeskMade, shape-of, shape-tests}
+use Rattle.working.proofs.Made.{Well}
 use Rattle.working.proofs.Tests.{and, both}
 use Rattle.working.specs.Sections.{numberAt, otherAt, unused}
 use Rattle.working.specs.Steps.{turnAt, turned}
@@ -52,9 +53,9 @@ module _ (z : Station) where
   turned-shape : (v : Vehicle) → shaped v ≡ true → isOpener (v .movement) ≡ true → shaped (turned z v) ≡ true
   turned-shape v h o =
       let p = shape-of v h in
-      rw (p .sender, o, p .moves) (heads z)
+      shape-tests (turned z v) (record { sender = p .sender; heading = heads z; away = refl; unmet = rw o; moves = p .moves })
     where
-      heads : (z : Station) → ((eqb (numberAt z) 1 || eqb (numberAt z) 2) && true) ≡ true
+      heads : (z : Station) → (eqb (numberAt z) 1 || eqb (numberAt z) 2) ≡ true
       heads A = refl
       heads B = refl
 
@@ -80,6 +81,7 @@ module _ (z : Station) where
     sent = m .sent;
     present = omega (arith, turn-sum (λ v. oneIf (isFrom n v)) (λ v. refl) i l, m .present);
     bounds = m .bounds;
+    interval = m .interval;
     number = turn-all (numbered n (d .last)) (λ v. refl) i l ∙ m .number;
   }
 

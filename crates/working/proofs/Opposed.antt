@@ -4,10 +4,11 @@
 -- Assumes nothing.
 use Prim.Native.Nat.{_-_, _<_, suc, zero, ℕ}
 use Rattle.working.proofs.Changes.{well-at}
+use Rattle.working.proofs.Clauses.{shape-of}
 use Rattle.working.proofs.Invariant.{all-map, allM, cons-nil, fast, inRow, isNil, may, may-of, nil-of}
 use Rattle.working.proofs.Kept.{Good, kept-at}
 use Rattle.working.proofs.Line.{other-other}
-use Rattle.working.proofs.Made.{other-sender, shape-of}
+use Rattle.working.proofs.Made.{other-sender}
 use Rattle.working.proofs.Sides.{all-seen, getD-reverse, length-seen, movesOf, ownMoves, seenFrom}
 use Rattle.working.proofs.Tests.{and, both, clash, or-second}
 use Rattle.working.specs.Sections.{lineOf, numberAt, otherAt, unused}

@@ -6,9 +6,10 @@ use Prim.Native.Nat.{_+_, _<_, _≤_, suc, ℕ}
 use Rattle.working.proofs.Changes.{Sound, named-there, sound-step, step-is, well-at}
 use Rattle.working.proofs.Line.{insert-length, length-remove, nearest-insert, remove-insert, split-end}
 use Rattle.working.proofs.Made.{line-after, room-of}
-use Rattle.working.proofs.Plans.{Fate, arrives, departs, fate, receive-passes, refuses}
-use Rattle.working.proofs.Ranges.{actTests, ranged-of}
-use Rattle.working.proofs.Tests.{Each, both, false-true, none-holds, none-of-both}
+use Rattle.working.proofs.Plans.{Fate, arrives, departs, fate, refuses}
+use Rattle.working.proofs.Ranges.{ActMade, ranged-of}
+use Rattle.working.proofs.Reasons.{receive-passes}
+use Rattle.working.proofs.Tests.{both, none-holds}
 use Rattle.working.specs.Acts as acts
 use Rattle.working.specs.Acts.{Act}
 use Rattle.working.specs.Demand3.{ReceivesIt, formIn, isDeparture}
@@ -34,7 +35,7 @@ use Rattle.working.specs.declared.Verdict.{Verdict}
 use borrow.Author.Tests.{eqb-true}
 use lib.Dec.{eqb}
 use lib.ListN.{length}
-use mathlib.Core.Bool.{Bool, _&&_, false, true}
+use mathlib.Core.Bool.{Bool, _&&_, false, false≢true, true, true≢false}
 use mathlib.Core.List.{List, [], _++_, _∷_}
 use mathlib.Core.Path.{_∙_, _≡_, ap, ap₂, refl, sym}
 use native.Mathlib.Omega.{arith}
@@ -117,12 +118,12 @@ done-answer s x (Depart p) = refl
 done-answer s x (Arrive d) = refl
 
 done-section : (s : Section) (x : Station) (p : Plan) → goes p ≡ true → doneBy s x p .section ≡ withDesk (withLine s (lineBy x p (lineOf s))) x (deskBy p (deskOf s x))
-done-section s x (Refuse r) g = absurd (false-true g)
+done-section s x (Refuse r) g = absurd (false≢true g)
 done-section s x (Depart p) g = refl
 done-section s x (Arrive d) g = refl
 
 accepted-goes : (p : Plan) → isAccepted (answerBy p) ≡ true → goes p ≡ true
-accepted-goes (Refuse r) h = absurd (false-true h)
+accepted-goes (Refuse r) h = absurd (false≢true h)
 accepted-goes (Depart p) h = refl
 accepted-goes (Arrive d) h = refl
 
@@ -169,24 +170,24 @@ plan-takes : (act : Act) (x : Station) (f : Bool) (d : Desk) (t : ℕ) (v : Vehi
 plan-takes act x f d t v = by (firstOf (testsOf act x f d t v))
   where
     by : (r : Verdict) → goes (unlessRefused r (effectOf act x d t v)) ≡ true → takes (unlessRefused r (effectOf act x d t v)) ≡ oneIf (isReceive act)
-    by (Refused j) g = absurd (false-true g)
+    by (Refused j) g = absurd (false≢true g)
     by Allowed g = effect-takes act x d t v
 
 -- the vehicle that a RECEIVE takes is the one it names
 plan-named : (act : Act) (x : Station) (f : Bool) (d : Desk) (t : ℕ) (v : Vehicle) → isReceive act ≡ true → goes (planOf act x f d t v) ≡ true
     → (y : Station) × (n : ℕ) × (act ≡ acts.Receive y n) × (isNamed y n v ≡ true)
-plan-named (acts.Open a b c) x f d t v h g = absurd (false-true h)
-plan-named (acts.Through a) x f d t v h g = absurd (false-true h)
-plan-named (acts.Return a b) x f d t v h g = absurd (false-true h)
-plan-named (acts.Train a b c) x f d t v h g = absurd (false-true h)
+plan-named (acts.Open a b c) x f d t v h g = absurd (false≢true h)
+plan-named (acts.Through a) x f d t v h g = absurd (false≢true h)
+plan-named (acts.Return a b) x f d t v h g = absurd (false≢true h)
+plan-named (acts.Train a b c) x f d t v h g = absurd (false≢true h)
 plan-named (acts.Receive y n) x f d t v h g = (y, n, refl, go (firstOf tests) refl g)
   where
     tests : List Test
     tests = stationTests f d t ++ receiveTests x y n v
 
     go : (r : Verdict) → firstOf tests ≡ r → goes (unlessRefused r (Arrive (arriveDesk x d t v))) ≡ true → isNamed y n v ≡ true
-    go (Refused j) e k = absurd (false-true k)
-    go Allowed e k = receive-passes x y n v (none-of-both (stationTests f d t) (receiveTests x y n v) (none-holds tests e) .1) .named
+    go (Refused j) e k = absurd (false≢true k)
+    go Allowed e k = receive-passes f d t x y n v (none-holds tests e) .named
 
 -- into an empty line and out again at the other end: the second receives what the first sent
 one-there : (x y : Station) (v : Vehicle) → nearestAt y (insertAt x v []) ≡ v
@@ -197,8 +198,8 @@ one-there B B v = refl
 
 same-station : (x z : Station) → eqb (numberAt x) (numberAt z) ≡ true → z ≡ x
 same-station A A h = refl
-same-station A B h = absurd (false-true h)
-same-station B A h = absurd (false-true h)
+same-station A B h = absurd (false≢true h)
+same-station B A h = absurd (false≢true h)
 same-station B B h = refl
 
 departure-of : (act : Act) → isReceive act ≡ false → isDeparture act ≡ true
@@ -206,7 +207,7 @@ departure-of (acts.Open a b c) h = refl
 departure-of (acts.Through a) h = refl
 departure-of (acts.Return a b) h = refl
 departure-of (acts.Train a b c) h = refl
-departure-of (acts.Receive y n) h = absurd (false-true (sym h))
+departure-of (acts.Receive y n) h = absurd (true≢false h)
 
 -- the vehicle that a departure puts in is the station's own
 abbrev OwnVehicle : Station → Plan → Type 0
@@ -230,7 +231,7 @@ own-vehicle act x f d t v = by (firstOf (testsOf act x f d t v))
 
 just-sent : (x y z : Station) (n : ℕ) (p : Plan) → goes p ≡ true → takes p ≡ 0 → OwnVehicle x p
     → isNamed z n (nearestAt y (lineBy x p [])) ≡ true → acts.Receive z n ≡ acts.Receive x (formIn (answerBy p))
-just-sent x y z n (Refuse r) g k from named = absurd (false-true g)
+just-sent x y z n (Refuse r) g k from named = absurd (false≢true g)
 just-sent x y z n (Arrive d) g k from named = absurd (omega arith)
 just-sent x y z n (Depart p) g k from named =
     let h : (eqb (p .vehicle .sender) (numberAt z) && eqb (p .vehicle .form) n) ≡ true = rw (one-there x y (p .vehicle)) at named in
@@ -261,7 +262,7 @@ plan-after : {x y : Station} → Opposite x y → (s : Section) (d : Desk) (l : 
 plan-after {x} {y} o s d l t act h = rw (force-with s x d l, desk-far o s d l, line-after s x d l h)
 
 desk-go : (p : Plan) (d e : Desk) → goes p ≡ true → deskBy p d ≡ deskBy p e
-desk-go (Refuse r) d e g = absurd (false-true g)
+desk-go (Refuse r) d e g = absurd (false≢true g)
 desk-go (Depart p) d e g = refl
 desk-go (Arrive b) d e g = refl
 
@@ -271,12 +272,12 @@ fits-by s x t act p g (departs {p = q} f leaves) = omega (arith, insert-length x
 fits-by s x t act p g (arrives y n e f named may) = omega (arith, length-remove x (lineOf s) (named-there y n x (lineOf s) named), well-at s x g .fits)
 
 module _ (s : Section) (g : Sound s) where
-  fated : (x : Station) (t : ℕ) (act : Act) → Each (actTests act) → length (lineBy x (planAt s x t act) (lineOf s)) ≤ 24
+  fated : (x : Station) (t : ℕ) (act : Act) → ActMade act → length (lineBy x (planAt s x t act) (lineOf s)) ≤ 24
   fated x t act r =
       fits-by s x t act (planAt s x t act) g
       (fate act x (s .force) (deskOf s x) t (nearestAt x (lineOf s)) r (well-at s x g .own .bounds))
 
-  module _ {x y : Station} (o : Opposite x y) (t u : ℕ) (act bct : Act) (r : Each (actTests act)) (r₁ : Each (actTests bct))
+  module _ {x y : Station} (o : Opposite x y) (t u : ℕ) (act bct : Act) (r : ActMade act) (r₁ : ActMade bct)
       (p q : Plan) (is-p : p ≡ planAt s x t act) (go-p : goes p ≡ true) (go-q : goes q ≡ true)
       (is-q : q ≡ planOf bct y (s .force) (deskOf s y) u (nearestAt y (lineBy x p (lineOf s))))
       (apart : ReceivesIt act x (answerBy p) bct → ⊥) where

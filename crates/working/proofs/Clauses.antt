@@ -1,0 +1,178 @@
+-- Well made, clause by clause: each list of tests of specs/WellMade as a record that names them, and back.
+-- Assumes nothing.
+use Prim.Native.Nat.{_≤_, ℕ}
+use Rattle.working.proofs.Tests.{Each, each-holds, every-holds}
+use Rattle.working.specs.Entries.{every}
+use Rattle.working.specs.Sections.{deskOf, lineOf, numberAt}
+use Rattle.working.specs.WellMade.{all, countFrom, deskTests, differ, isBlank, isIdle, isOpener, madeTests, movementTests, notLater, numbered, ordered, shaped, vehicleTests, wellMade}
+use Rattle.working.specs.declared.Desk.{Desk}
+use Rattle.working.specs.declared.Movement.the-variants.{Open, Return, Through, Train}
+use Rattle.working.specs.declared.Movement.{Movement}
+use Rattle.working.specs.declared.Section.{Section}
+use Rattle.working.specs.declared.Station.the-variants.{A, B}
+use Rattle.working.specs.declared.Station.{Station}
+use Rattle.working.specs.declared.Vehicle.{Vehicle}
+use borrow.Author.Tests.{eq-eqb, eqb-true, le-leb, leb-true}
+use lib.Dec.{eqb}
+use lib.ListN.{drop}
+use mathlib.Core.Bool.{_||_, not, true}
+use mathlib.Core.List.{List}
+use mathlib.Core.Path.{_≡_}
+use native.Mathlib.Omega.{arith}
+
+-- ---- what a vehicle left on: its class c, asked a and granted g
+
+pub record OpenMade (c a : ℕ) : Type 0 where
+  pub classed : 1 ≤ c
+  pub class : c ≤ 5
+  pub asks : 1 ≤ a
+  pub asked : a ≤ 8
+
+pub record Few (a g : ℕ) : Type 0 where
+  pub asked : a ≤ 8
+  pub granted : g ≤ 8
+
+pub record ReturnMade (c a g : ℕ) : Type 0 where
+  pub classed : 1 ≤ c
+  pub class : c ≤ 5
+  pub few : Few a g
+
+pub record TrainMade (c a g : ℕ) : Type 0 where
+  pub class : c ≡ 0
+  pub few : Few a g
+
+abbrev pub MovementMade : Movement → ℕ → Type 0
+MovementMade (Open a) c = OpenMade c a
+MovementMade Through c = c ≡ 1
+MovementMade (Return a g) c = ReturnMade c a g
+MovementMade (Train a g) c = TrainMade c a g
+
+pub movement-made : (m : Movement) (c : ℕ) → every (movementTests m c) ≡ true → MovementMade m c
+movement-made m c h = by m (each-holds (movementTests m c) h)
+  where
+    by : (m : Movement) → Each (movementTests m c) → MovementMade m c
+    by (Open a) e = omega (arith, leb-true)
+    by Through e = omega (arith, eqb-true)
+    by (Return a g) e = omega (arith, leb-true)
+    by (Train a g) e = omega (arith, eqb-true, leb-true)
+
+pub movement-tests : (m : Movement) (c : ℕ) → MovementMade m c → every (movementTests m c) ≡ true
+movement-tests m c h = every-holds (movementTests m c) (by m h)
+  where
+    by : (m : Movement) → MovementMade m c → Each (movementTests m c)
+    by (Open a) h = omega (arith, le-leb)
+    by Through h = omega (arith, eq-eqb)
+    by (Return a g) h = omega (arith, le-leb)
+    by (Train a g) h = omega (arith, eq-eqb, le-leb)
+
+-- ---- a vehicle
+
+pub record Shape (v : Vehicle) : Type 0 where
+  pub sender : (eqb (v .sender) 1 || eqb (v .sender) 2) ≡ true
+  pub heading : (eqb (v .heading) 1 || eqb (v .heading) 2) ≡ true
+  pub away : (v .met || not (eqb (v .heading) (v .sender))) ≡ true
+  pub unmet : (isOpener (v .movement) || not (v .met)) ≡ true
+  pub moves : MovementMade (v .movement) (v .class)
+
+pub shape-of : (v : Vehicle) → shaped v ≡ true → Shape v
+shape-of v h =
+    let (sender, (heading, (away, (unmet, (moves, end))))) = each-holds (vehicleTests v) h in
+    record { sender = sender; heading = heading; away = away; unmet = unmet; moves = movement-made (v .movement) (v .class) moves }
+
+pub shape-tests : (v : Vehicle) → Shape v → shaped v ≡ true
+shape-tests v s = every-holds (vehicleTests v) (s .sender, (s .heading, (s .away, (s .unmet, (movement-tests (v .movement) (v .class) (s .moves), tt)))))
+
+-- ---- a desk
+
+-- its figures in range
+pub record Bounds (d : Desk) : Type 0 where
+  pub guest : d .guest ≤ 5
+  pub asked : d .clears .asked ≤ 8
+  pub holds : d .clears .holds ≤ 8
+  pub owes : d .clears .owes ≤ 8
+
+-- the desk of station number n beside the line l
+pub record DeskMade (n : ℕ) (d : Desk) (l : List Vehicle) : Type 0 where
+  pub last : d .last ≤ 9999
+  pub sent : d .sent ≤ 12
+  pub present : countFrom n l ≤ d .sent
+  pub bounds : Bounds d
+  pub interval : notLater (d .interval) (d .clock) ≡ true
+  pub number : all (numbered n (d .last)) l ≡ true
+
+pub desk-made : (n : ℕ) (d : Desk) (l : List Vehicle) → every (deskTests n d l) ≡ true → DeskMade n d l
+desk-made n d l h =
+    let (last, (sent, (present, (guest, (asked, (holds, (owes, (interval, (number, end))))))))) = each-holds (deskTests n d l) h in
+    record {
+      last = leb-true _ _ last;
+      sent = leb-true _ _ sent;
+      present = leb-true _ _ present;
+      bounds = omega (arith, leb-true);
+      interval = interval;
+      number = number;
+    }
+
+pub desk-tests : (n : ℕ) (d : Desk) (l : List Vehicle) → DeskMade n d l → every (deskTests n d l) ≡ true
+desk-tests n d l m =
+    let b = m .bounds in
+    every-holds (deskTests n d l) (
+      le-leb _ _ (m .last),
+      (
+        le-leb _ _ (m .sent),
+        (
+          le-leb _ _ (m .present),
+          (le-leb _ _ (b .guest), (le-leb _ _ (b .asked), (le-leb _ _ (b .holds), (le-leb _ _ (b .owes), (m .interval, (m .number, tt)))))),
+        ),
+      ),
+    )
+
+-- ---- the section
+
+pub record SectionMade (s : Section) : Type 0 where
+  pub fits : s .len ≤ 24
+  pub blank : all isBlank (drop (s .len) (s .vehicles)) ≡ true
+  pub shape : all shaped (lineOf s) ≡ true
+  pub order : ordered (lineOf s) ≡ true
+  pub distinct : differ (lineOf s) ≡ true
+  pub a : DeskMade 1 (s .a) (lineOf s)
+  pub b : DeskMade 2 (s .b) (lineOf s)
+  pub idle : (s .force || isIdle s) ≡ true
+
+pub section-made : (s : Section) → wellMade s ≡ true → SectionMade s
+unfolding wellMade
+section-made s h =
+    let (fits, (blank, (shape, (order, (distinct, (a, (b, (idle, end)))))))) = each-holds (madeTests s) h in
+    record {
+      fits = leb-true (s .len) 24 fits;
+      blank = blank;
+      shape = shape;
+      order = order;
+      distinct = distinct;
+      a = desk-made 1 (s .a) (lineOf s) a;
+      b = desk-made 2 (s .b) (lineOf s) b;
+      idle = idle;
+    }
+
+pub section-tests : (s : Section) → SectionMade s → wellMade s ≡ true
+unfolding wellMade
+section-tests s m =
+    every-holds (madeTests s) (
+      le-leb _ _ (m .fits),
+      (
+        m .blank,
+        (
+          m .shape,
+          (
+            m .order,
+            (
+              m .distinct,
+              (desk-tests 1 (s .a) (lineOf s) (m .a), (desk-tests 2 (s .b) (lineOf s) (m .b), (m .idle, tt))),
+            ),
+          ),
+        ),
+      ),
+    )
+
+pub desk-of : (s : Section) (x : Station) → SectionMade s → DeskMade (numberAt x) (deskOf s x) (lineOf s)
+desk-of s A m = m .a
+desk-of s B m = m .b

@@ -20,32 +20,25 @@ use mathlib.Core.List.{List}
 use mathlib.Core.Path.{_≡_}
 use native.Mathlib.Omega.{arith}
 
--- ---- what a vehicle left on: its class c, asked a and granted g
+-- ---- what a vehicle left on
 
-pub record OpenMade (c a : ℕ) : Type 0 where
-  pub classed : 1 ≤ c
-  pub class : c ≤ 5
-  pub asks : 1 ≤ a
-  pub asked : a ≤ 8
-
-pub record Few (a g : ℕ) : Type 0 where
+-- a class c from `low` to `high`, asked a, at least `some`, and granted g
+pub record Carried (low high some c a g : ℕ) : Type 0 where
+  pub least : low ≤ c
+  pub most : c ≤ high
+  pub asks : some ≤ a
   pub asked : a ≤ 8
   pub granted : g ≤ 8
 
-pub record ReturnMade (c a g : ℕ) : Type 0 where
-  pub classed : 1 ≤ c
-  pub class : c ≤ 5
-  pub few : Few a g
-
-pub record TrainMade (c a g : ℕ) : Type 0 where
-  pub class : c ≡ 0
-  pub few : Few a g
+-- asked and granted alone
+abbrev pub Few : ℕ → ℕ → Type 0
+Few a g = Carried 0 0 0 0 a g
 
 abbrev pub MovementMade : Movement → ℕ → Type 0
-MovementMade (Open a) c = OpenMade c a
-MovementMade Through c = c ≡ 1
-MovementMade (Return a g) c = ReturnMade c a g
-MovementMade (Train a g) c = TrainMade c a g
+MovementMade (Open a) c = Carried 1 5 1 c a 0
+MovementMade Through c = Carried 1 1 0 c 0 0
+MovementMade (Return a g) c = Carried 1 5 0 c a g
+MovementMade (Train a g) c = Carried 0 0 0 c a g
 
 pub movement-made : (m : Movement) (c : ℕ) → every (movementTests m c) ≡ true → MovementMade m c
 movement-made m c h = by m (each-holds (movementTests m c) h)
@@ -75,12 +68,10 @@ pub record Shape (v : Vehicle) : Type 0 where
   pub moves : MovementMade (v .movement) (v .class)
 
 pub shape-of : (v : Vehicle) → shaped v ≡ true → Shape v
-shape-of v h =
-    let (sender, (heading, (away, (unmet, (moves, end))))) = each-holds (vehicleTests v) h in
-    record { sender = sender; heading = heading; away = away; unmet = unmet; moves = movement-made (v .movement) (v .class) moves }
+shape-of v h = let e = each-holds (vehicleTests v) h in search movement-made depth 12
 
 pub shape-tests : (v : Vehicle) → Shape v → shaped v ≡ true
-shape-tests v s = every-holds (vehicleTests v) (s .sender, (s .heading, (s .away, (s .unmet, (movement-tests (v .movement) (v .class) (s .moves), tt)))))
+shape-tests v s = every-holds (vehicleTests v) (search movement-tests)
 
 -- ---- a desk
 
@@ -101,30 +92,10 @@ pub record DeskMade (n : ℕ) (d : Desk) (l : List Vehicle) : Type 0 where
   pub number : all (numbered n (d .last)) l ≡ true
 
 pub desk-made : (n : ℕ) (d : Desk) (l : List Vehicle) → every (deskTests n d l) ≡ true → DeskMade n d l
-desk-made n d l h =
-    let (last, (sent, (present, (guest, (asked, (holds, (owes, (interval, (number, end))))))))) = each-holds (deskTests n d l) h in
-    record {
-      last = leb-true _ _ last;
-      sent = leb-true _ _ sent;
-      present = leb-true _ _ present;
-      bounds = omega (arith, leb-true);
-      interval = interval;
-      number = number;
-    }
+desk-made n d l h = let e = each-holds (deskTests n d l) h in search (leb-true, arith) depth 12
 
 pub desk-tests : (n : ℕ) (d : Desk) (l : List Vehicle) → DeskMade n d l → every (deskTests n d l) ≡ true
-desk-tests n d l m =
-    let b = m .bounds in
-    every-holds (deskTests n d l) (
-      le-leb _ _ (m .last),
-      (
-        le-leb _ _ (m .sent),
-        (
-          le-leb _ _ (m .present),
-          (le-leb _ _ (b .guest), (le-leb _ _ (b .asked), (le-leb _ _ (b .holds), (le-leb _ _ (b .owes), (m .interval, (m .number, tt)))))),
-        ),
-      ),
-    )
+desk-tests n d l m = every-holds (deskTests n d l) (search (le-leb, arith) depth 12)
 
 -- ---- the section
 
@@ -140,38 +111,11 @@ pub record SectionMade (s : Section) : Type 0 where
 
 pub section-made : (s : Section) → wellMade s ≡ true → SectionMade s
 unfolding wellMade
-section-made s h =
-    let (fits, (blank, (shape, (order, (distinct, (a, (b, (idle, end)))))))) = each-holds (madeTests s) h in
-    record {
-      fits = leb-true (s .len) 24 fits;
-      blank = blank;
-      shape = shape;
-      order = order;
-      distinct = distinct;
-      a = desk-made 1 (s .a) (lineOf s) a;
-      b = desk-made 2 (s .b) (lineOf s) b;
-      idle = idle;
-    }
+section-made s h = let e = each-holds (madeTests s) h in search (leb-true, desk-made, arith) depth 12
 
 pub section-tests : (s : Section) → SectionMade s → wellMade s ≡ true
 unfolding wellMade
-section-tests s m =
-    every-holds (madeTests s) (
-      le-leb _ _ (m .fits),
-      (
-        m .blank,
-        (
-          m .shape,
-          (
-            m .order,
-            (
-              m .distinct,
-              (desk-tests 1 (s .a) (lineOf s) (m .a), (desk-tests 2 (s .b) (lineOf s) (m .b), (m .idle, tt))),
-            ),
-          ),
-        ),
-      ),
-    )
+section-tests s m = every-holds (madeTests s) (search (le-leb, desk-tests) depth 12)
 
 pub desk-of : (s : Section) (x : Station) → SectionMade s → DeskMade (numberAt x) (deskOf s x) (lineOf s)
 desk-of s A m = m .a

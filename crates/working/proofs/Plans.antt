@@ -91,7 +91,7 @@ departs-by act x force d t v own to m class order shows =
     (λ n.
     let p = depart-passes force d t own n in
     let k = shows (p .own) in
-    departs (p .station .begun)
+    departs (p .begun)
     (record {
       last = refl;
       sent = refl;
@@ -138,14 +138,14 @@ opener-fate act x force d t v out m class forms w b is out-is made kind odd =
 pub fate : (act : Act) (x : Station) (force : Bool) (d : Desk) (t : ℕ) (v : Vehicle) → ActMade act → Bounds d → Fate act x force d t v (planOf act x force d t v)
 fate (acts.Open w class asked) x force d t v made b =
     opener-fate (acts.Open w class asked) x force d t v true (Open asked) class 7 w b refl (λ p. refl) made refl refl
-fate (acts.Through w) x force d t v made b = opener-fate (acts.Through w) x force d t v (d .out) Through 1 1 w b refl (λ p. p .out) refl refl refl
+fate (acts.Through w) x force d t v made b = opener-fate (acts.Through w) x force d t v (d .out) Through 1 1 w b refl (λ p. p .out) (omega arith) refl refl
 fate (acts.Return asked granted) x force d t v few b =
     departs-by (acts.Return asked granted) x force d t v (returnTests d granted) _ (Return asked granted) (d .guest) _
     (λ n.
     let p = return-passes d granted n in
     record {
       bounds = omega (arith, either-most (ltb 0 granted) (few .granted) (b .owes));
-      made = record { classed = p .guest; class = b .guest; few = few };
+      made = omega (arith, p .guest);
       keeps = λ o mine theirs h. kept-return d o t asked granted mine theirs h p;
       kind = refl;
       slowly = λ q. absurd (false≢true q);
@@ -156,7 +156,7 @@ fate (acts.Train w asked granted) x force d t v few b =
     let none : 0 ≤ 8 = omega arith in
     record {
       bounds = omega (arith, either-most (ltb 0 granted) none (b .asked), either-most (ltb 0 granted) (few .granted) (b .owes));
-      made = record { class = refl; few = few };
+      made = omega arith;
       keeps = λ o mine theirs h. kept-train d o t asked granted mine theirs h (train-passes d granted n);
       kind = refl;
       slowly = λ q. absurd (false≢true q);
@@ -165,4 +165,4 @@ fate (acts.Receive y k) x force d t v made b =
     plan-elim (Fate (acts.Receive y k) x force d t v) (stationTests force d t ++ receiveTests x y k v) _ refuses
     (λ n.
     let p = receive-passes force d t x y k v n in
-    arrives y k refl (p .station .begun) (p .named) (p .enters))
+    arrives y k refl (p .begun) (p .named) (p .enters))

@@ -2,7 +2,7 @@
 -- The kind fixes which bits stand, and a field that is there lies in its range.
 -- Assumes nothing.
 use Prim.Native.Nat.{_+_, _≤_, ℕ}
-use Rattle.working.proofs.Clauses.{Few, OpenMade}
+use Rattle.working.proofs.Clauses.{Carried, Few}
 use Rattle.working.proofs.Found.{Found, cut, found, the-end, whole}
 use Rattle.working.proofs.Judged.{taken}
 use Rattle.working.proofs.Tests.{both}
@@ -24,7 +24,7 @@ use native.Mathlib.Omega.{arith}
 -- ---- the act by name
 
 abbrev pub ActMade : Act → Type 0
-ActMade (acts.Open view class asked) = OpenMade class asked
+ActMade (acts.Open view class asked) = Carried 1 5 1 class asked 0
 ActMade (acts.Through view) = Unit {0}
 ActMade (acts.Return asked granted) = Few asked granted
 ActMade (acts.Train view asked granted) = Few asked granted
@@ -74,10 +74,10 @@ module _ (e : Entry) (allowed : judge e ≡ Allowed) where
   few : Few (e .asked) (e .granted)
   few =
       let r = taken e allowed .ranges in
-      record { asked = at-most (stands 5 (e .map)) 1 8 (e .asked) (r .asked); granted = at-most (stands 6 (e .map)) 1 8 (e .granted) (r .granted) }
+      omega (arith, at-most (stands 5 (e .map)) 1 8 (e .asked) (r .asked), at-most (stands 6 (e .map)) 1 8 (e .granted) (r .granted))
 
   -- OPEN has a class and asks: bits 4 and 5 of its map stand
-  opens : e .kind ≡ 2 → OpenMade (e .class) (e .asked)
+  opens : e .kind ≡ 2 → Carried 1 5 1 (e .class) (e .asked) 0
   unfolding mapFits
   opens is =
       let r = taken e allowed .ranges in

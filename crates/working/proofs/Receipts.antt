@@ -40,8 +40,8 @@ arrives-own d t (Train a g) is b = absurd (false≢true is)
 pub arrives-far : (d : Desk) (t class : ℕ) (m : Movement) → MovementMade m class → Bounds d → Arrives d (otherDesk d t class m) 0
 arrives-far d t class (Open a) made b = arrived d t 0 _ (omega arith)
 arrives-far d t class Through made b = arrived d t 0 _ (omega arith)
-arrives-far d t class (Return a g) made b = arrived d t 0 _ (omega (arith, either-most (ltb 0 a) (made .few .asked) (b .asked)))
-arrives-far d t class (Train a g) made b = arrived d t 0 _ (omega (arith, either-most (ltb 0 a) (made .few .asked) (b .asked)))
+arrives-far d t class (Return a g) made b = arrived d t 0 _ (omega (arith, either-most (ltb 0 a) (made .asked) (b .asked)))
+arrives-far d t class (Train a g) made b = arrived d t 0 _ (omega (arith, either-most (ltb 0 a) (made .asked) (b .asked)))
 
 -- ---- the invariant
 
@@ -52,7 +52,7 @@ keeps-own d o t (Return a g) mine theirs is h = absurd (false≢true is)
 keeps-own d o t (Train a g) mine theirs is h = absurd (false≢true is)
 
 pub keeps-far : (d o : Desk) (t class : ℕ) (m : Movement) (l : List Movement) → MovementMade m class → Halves d o [] (l ++ m ∷ []) → Halves (otherDesk d t class m) o [] l
-keeps-far d o t class (Open a) l made h = kept-guest d o t class a l h (made .classed)
+keeps-far d o t class (Open a) l made h = kept-guest d o t class a l h (made .least)
 keeps-far d o t class Through l made h = kept-far d o t class Through l h refl
 keeps-far d o t class (Return a g) l made h = kept-far d o t class (Return a g) l h refl
 keeps-far d o t class (Train a g) l made h = kept-far d o t class (Train a g) l h refl

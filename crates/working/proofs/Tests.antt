@@ -6,8 +6,8 @@ use Rattle.working.specs.Refusals.{Test, firstOf, orElse}
 use Rattle.working.specs.declared.Refusal.{Refusal}
 use Rattle.working.specs.declared.Verdict.the-variants.{Allowed}
 use Rattle.working.specs.declared.Verdict.{Verdict}
-use borrow.Author.Tests.{le-ltb, ltb-false}
-use lib.Dec.{ltb}
+use borrow.Author.Tests.{eqb-false, le-ltb, ltb-false}
+use lib.Dec.{eqb, ltb}
 use mathlib.Core.Bool.{Bool, _&&_, _||_, cond, false, false≢true, true, true≢false}
 use mathlib.Core.List.{List, [], _++_, _∷_}
 use mathlib.Core.Path.{_∙_, _≡_, refl, sym}
@@ -47,6 +47,9 @@ or-intro false b e = e
 
 pub no-test : (n : ℕ) → ltb 0 n ≡ false → n ≡ 0
 no-test n e = omega (arith, ltb-false 0 n e)
+
+pub some-test : (n : ℕ) → eqb n 0 ≡ false → 0 < n
+some-test n e = omega (arith, eqb-false n 0 e)
 
 pub zero-test : (n : ℕ) → n ≡ 0 → ltb 0 n ≡ false
 zero-test n e = le-ltb 0 n (omega arith)

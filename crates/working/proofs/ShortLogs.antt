@@ -23,31 +23,11 @@ log-3 =
     ∷ []
 
 answers-3 : answersIn (turnsOf fresh log-3) ≡
-    Refused NotInForce
-    ∷ Accepted 0 0 NoSpeed
-    ∷ Accepted 1 7 (Kmh 15)
-    ∷ Accepted 0 0 NoSpeed
-    ∷ Accepted 1 180 Booked
-    ∷ Refused MayNotEnter
-    ∷ Refused OutOfRange
-    ∷ Accepted 0 0 NoSpeed
-    ∷ Accepted 2 168 Booked
-    ∷ Refused MayNotEnter
-    ∷ Accepted 0 0 NoSpeed
-    ∷ Accepted 3 106 (Kmh 25)
-    ∷ Accepted 4 106 (Kmh 10)
-    ∷ Accepted 0 0 NoSpeed
-    ∷ Refused NotNearest
-    ∷ Refused VehiclePresent
-    ∷ Accepted 0 0 NoSpeed
-    ∷ Accepted 5 104 (Kmh 10)
-    ∷ Refused NotNearest
-    ∷ Refused NoLineClear
-    ∷ Accepted 0 0 NoSpeed
-    ∷ Accepted 6 104 (Kmh 10)
-    ∷ Accepted 0 0 NoSpeed
-    ∷ Refused UnknownKind
-    ∷ Accepted 7 106 (Kmh 10)
+    Refused NotInForce ∷ Accepted 0 0 NoSpeed ∷ Accepted 1 7 (Kmh 15) ∷ Accepted 0 0 NoSpeed ∷ Accepted 1 180 Booked
+    ∷ Refused MayNotEnter ∷ Refused OutOfRange ∷ Accepted 0 0 NoSpeed ∷ Accepted 2 168 Booked ∷ Refused MayNotEnter
+    ∷ Accepted 0 0 NoSpeed ∷ Accepted 3 106 (Kmh 25) ∷ Accepted 4 106 (Kmh 10) ∷ Accepted 0 0 NoSpeed ∷ Refused NotNearest
+    ∷ Refused VehiclePresent ∷ Accepted 0 0 NoSpeed ∷ Accepted 5 104 (Kmh 10) ∷ Refused NotNearest ∷ Refused NoLineClear
+    ∷ Accepted 0 0 NoSpeed ∷ Accepted 6 104 (Kmh 10) ∷ Accepted 0 0 NoSpeed ∷ Refused UnknownKind ∷ Accepted 7 106 (Kmh 10)
     ∷ Accepted 0 0 NoSpeed
     ∷ []
 unfolding turns-compute
@@ -66,31 +46,11 @@ log-8 =
     ∷ []
 
 answers-8 : answersIn (turnsOf fresh log-8) ≡
-    Accepted 0 0 NoSpeed
-    ∷ Refused UnknownKind
-    ∷ Accepted 1 1 Walking
-    ∷ Accepted 1 1 Walking
-    ∷ Accepted 0 0 NoSpeed
-    ∷ Accepted 2 1 (Kmh 10)
-    ∷ Accepted 3 1 Walking
-    ∷ Accepted 4 1 (Kmh 10)
-    ∷ Accepted 2 1 Walking
-    ∷ Accepted 3 1 (Kmh 15)
-    ∷ Accepted 4 1 Walking
-    ∷ Accepted 5 1 Walking
-    ∷ Accepted 5 1 (Kmh 15)
-    ∷ Refused BeforeClock
-    ∷ Accepted 6 1 Walking
-    ∷ Accepted 6 1 Walking
-    ∷ Accepted 7 1 Walking
-    ∷ Accepted 0 0 NoSpeed
-    ∷ Accepted 7 1 Walking
-    ∷ Refused UnknownKind
-    ∷ Accepted 8 1 (Kmh 15)
-    ∷ Accepted 9 1 Walking
-    ∷ Accepted 8 1 (Kmh 15)
-    ∷ Accepted 10 1 (Kmh 15)
-    ∷ Accepted 9 1 Walking
+    Accepted 0 0 NoSpeed ∷ Refused UnknownKind ∷ Accepted 1 1 Walking ∷ Accepted 1 1 Walking ∷ Accepted 0 0 NoSpeed
+    ∷ Accepted 2 1 (Kmh 10) ∷ Accepted 3 1 Walking ∷ Accepted 4 1 (Kmh 10) ∷ Accepted 2 1 Walking ∷ Accepted 3 1 (Kmh 15)
+    ∷ Accepted 4 1 Walking ∷ Accepted 5 1 Walking ∷ Accepted 5 1 (Kmh 15) ∷ Refused BeforeClock ∷ Accepted 6 1 Walking
+    ∷ Accepted 6 1 Walking ∷ Accepted 7 1 Walking ∷ Accepted 0 0 NoSpeed ∷ Accepted 7 1 Walking ∷ Refused UnknownKind
+    ∷ Accepted 8 1 (Kmh 15) ∷ Accepted 9 1 Walking ∷ Accepted 8 1 (Kmh 15) ∷ Accepted 10 1 (Kmh 15) ∷ Accepted 9 1 Walking
     ∷ Refused EndsInside
     ∷ []
 unfolding turns-compute
@@ -109,31 +69,11 @@ log-21 =
     ∷ []
 
 answers-21 : answersIn (turnsOf fresh log-21) ≡
-    Refused OutOfRange
-    ∷ Accepted 0 0 NoSpeed
-    ∷ Accepted 1 7 (Kmh 10)
-    ∷ Accepted 1 7 Walking
-    ∷ Accepted 0 0 NoSpeed
-    ∷ Accepted 2 7 (Kmh 15)
-    ∷ Accepted 0 0 NoSpeed
-    ∷ Accepted 3 7 (Kmh 10)
-    ∷ Accepted 0 0 NoSpeed
-    ∷ Accepted 0 0 NoSpeed
-    ∷ Accepted 2 7 (Kmh 10)
-    ∷ Refused WrongMap
-    ∷ Accepted 0 0 NoSpeed
-    ∷ Accepted 3 7 (Kmh 15)
-    ∷ Accepted 0 0 NoSpeed
-    ∷ Accepted 4 7 Walking
-    ∷ Accepted 0 0 NoSpeed
-    ∷ Refused BeforeClock
-    ∷ Accepted 5 7 Walking
-    ∷ Accepted 0 0 NoSpeed
-    ∷ Accepted 6 1 (Kmh 15)
-    ∷ Accepted 0 0 NoSpeed
-    ∷ Accepted 7 7 Walking
-    ∷ Accepted 0 0 NoSpeed
-    ∷ Refused UnknownKind
+    Refused OutOfRange ∷ Accepted 0 0 NoSpeed ∷ Accepted 1 7 (Kmh 10) ∷ Accepted 1 7 Walking ∷ Accepted 0 0 NoSpeed
+    ∷ Accepted 2 7 (Kmh 15) ∷ Accepted 0 0 NoSpeed ∷ Accepted 3 7 (Kmh 10) ∷ Accepted 0 0 NoSpeed ∷ Accepted 0 0 NoSpeed
+    ∷ Accepted 2 7 (Kmh 10) ∷ Refused WrongMap ∷ Accepted 0 0 NoSpeed ∷ Accepted 3 7 (Kmh 15) ∷ Accepted 0 0 NoSpeed
+    ∷ Accepted 4 7 Walking ∷ Accepted 0 0 NoSpeed ∷ Refused BeforeClock ∷ Accepted 5 7 Walking ∷ Accepted 0 0 NoSpeed
+    ∷ Accepted 6 1 (Kmh 15) ∷ Accepted 0 0 NoSpeed ∷ Accepted 7 7 Walking ∷ Accepted 0 0 NoSpeed ∷ Refused UnknownKind
     ∷ Refused EndsInside
     ∷ []
 unfolding turns-compute
@@ -152,31 +92,11 @@ log-34 =
     ∷ []
 
 answers-34 : answersIn (turnsOf fresh log-34) ≡
-    Accepted 0 0 NoSpeed
-    ∷ Accepted 1 7 (Kmh 10)
-    ∷ Accepted 1 7 Walking
-    ∷ Refused UnknownKind
-    ∷ Accepted 0 0 NoSpeed
-    ∷ Refused UnknownKind
-    ∷ Accepted 2 1 Walking
-    ∷ Accepted 3 7 (Kmh 15)
-    ∷ Accepted 0 0 NoSpeed
-    ∷ Accepted 4 7 (Kmh 10)
-    ∷ Refused UnknownKind
-    ∷ Accepted 0 0 NoSpeed
-    ∷ Accepted 0 0 NoSpeed
-    ∷ Accepted 2 7 (Kmh 15)
-    ∷ Refused UnknownKind
-    ∷ Accepted 5 7 (Kmh 10)
-    ∷ Accepted 0 0 NoSpeed
-    ∷ Accepted 3 7 (Kmh 15)
-    ∷ Accepted 0 0 NoSpeed
-    ∷ Accepted 0 0 NoSpeed
-    ∷ Accepted 6 1 (Kmh 10)
-    ∷ Accepted 0 0 NoSpeed
-    ∷ Accepted 7 7 (Kmh 10)
-    ∷ Accepted 0 0 NoSpeed
-    ∷ Accepted 8 7 (Kmh 10)
+    Accepted 0 0 NoSpeed ∷ Accepted 1 7 (Kmh 10) ∷ Accepted 1 7 Walking ∷ Refused UnknownKind ∷ Accepted 0 0 NoSpeed
+    ∷ Refused UnknownKind ∷ Accepted 2 1 Walking ∷ Accepted 3 7 (Kmh 15) ∷ Accepted 0 0 NoSpeed ∷ Accepted 4 7 (Kmh 10)
+    ∷ Refused UnknownKind ∷ Accepted 0 0 NoSpeed ∷ Accepted 0 0 NoSpeed ∷ Accepted 2 7 (Kmh 15) ∷ Refused UnknownKind
+    ∷ Accepted 5 7 (Kmh 10) ∷ Accepted 0 0 NoSpeed ∷ Accepted 3 7 (Kmh 15) ∷ Accepted 0 0 NoSpeed ∷ Accepted 0 0 NoSpeed
+    ∷ Accepted 6 1 (Kmh 10) ∷ Accepted 0 0 NoSpeed ∷ Accepted 7 7 (Kmh 10) ∷ Accepted 0 0 NoSpeed ∷ Accepted 8 7 (Kmh 10)
     ∷ Refused AlreadyInForce
     ∷ []
 unfolding turns-compute

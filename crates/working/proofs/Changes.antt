@@ -2,9 +2,9 @@
 -- A refusal counts; BEGIN and RESUME empty the section; a departure puts a vehicle in at the station's end; a receipt takes one out there; MEET turns two.
 -- Assumes nothing.
 use Prim.Native.Nat.{_<_, suc, ℕ}
-use Rattle.working.proofs.Clauses.{shape-of}
-use Rattle.working.proofs.Line.{nearest-insert, remove-insert, split-end}
-use Rattle.working.proofs.Made.{Well, length-padTo, made-of, shape-rest, well-far, well-insert, well-of, well-own}
+use Rattle.working.proofs.Clauses.{Shape}
+use Rattle.working.proofs.Line.{every-end, nearest-insert, remove-insert, split-end}
+use Rattle.working.proofs.Made.{Well, length-padTo, made-of, well-far, well-insert, well-of, well-own}
 use Rattle.working.proofs.Meeting.{turn-left-on, well-turn}
 use Rattle.working.proofs.Plans.{Departs, Fate, arrives, departs, fate, refuses}
 use Rattle.working.proofs.Ranges.{Ranged, ranged-of}
@@ -139,7 +139,7 @@ well-arrive s x time v l g e may = by (receipt x d time v may)
     by : {e : Desk} → Receipt x d time v e → Well x e o l
     by (own is opener) = well-own x d o (ownDesk d time (v .movement)) v l w is (arrives-own d time (v .movement) opener (w .own .bounds))
     by (far is) =
-        let moves = shape-of v (shape-rest x d o d v l w .0) .moves in
+        let moves = every-end Shape x v l (w .shape) .1 .moves in
         well-far x d o (otherDesk d time (v .class) (v .movement)) v l w is (arrives-far d time (v .class) (v .movement) moves (w .own .bounds))
 
 -- the line taken apart at the end of a station whose nearest vehicle is named

@@ -1,10 +1,11 @@
 -- Well made, clause by clause: each list of tests of specs/WellMade as a record that names them, and back.
 -- Assumes nothing.
 use Prim.Native.Nat.{_≤_, ℕ}
-use Rattle.working.proofs.Tests.{Each, each-holds, every-holds}
+use Rattle.working.proofs.Every.{Every, all-every, every-all}
+use Rattle.working.proofs.Tests.{Each, and, both, each-holds, every-holds}
 use Rattle.working.specs.Entries.{every}
 use Rattle.working.specs.Sections.{deskOf, lineOf, numberAt}
-use Rattle.working.specs.WellMade.{all, countFrom, deskTests, differ, isBlank, isIdle, isOpener, madeTests, movementTests, notLater, numbered, ordered, shaped, vehicleTests, wellMade}
+use Rattle.working.specs.WellMade.{all, countFrom, deskTests, differ, isBlank, isFrom, isIdle, isOpener, madeTests, movementTests, notLater, numbered, ordered, shaped, vehicleTests, wellMade}
 use Rattle.working.specs.declared.Desk.{Desk}
 use Rattle.working.specs.declared.Movement.the-variants.{Open, Return, Through, Train}
 use Rattle.working.specs.declared.Movement.{Movement}
@@ -13,11 +14,11 @@ use Rattle.working.specs.declared.Station.the-variants.{A, B}
 use Rattle.working.specs.declared.Station.{Station}
 use Rattle.working.specs.declared.Vehicle.{Vehicle}
 use borrow.Author.Tests.{eq-eqb, eqb-true, le-leb, leb-true}
-use lib.Dec.{eqb}
+use lib.Dec.{eqb, leb}
 use lib.ListN.{drop}
-use mathlib.Core.Bool.{_||_, not, true}
+use mathlib.Core.Bool.{Bool, _&&_, _||_, false, not, true}
 use mathlib.Core.List.{List}
-use mathlib.Core.Path.{_≡_}
+use mathlib.Core.Path.{_≡_, refl}
 use native.Mathlib.Omega.{arith}
 
 -- ---- what a vehicle left on
@@ -73,6 +74,21 @@ shape-of v h = let e = each-holds (vehicleTests v) h in search movement-made dep
 pub shape-tests : (v : Vehicle) → Shape v → shaped v ≡ true
 shape-tests v s = every-holds (vehicleTests v) (search movement-tests)
 
+-- ---- form numbers
+
+abbrev pub Numbered : ℕ → ℕ → Vehicle → Type 0
+Numbered n last v = isFrom n v ≡ true → (1 ≤ v .form) × (v .form ≤ last)
+
+numbered-made : (n last : ℕ) (v : Vehicle) → numbered n last v ≡ true → Numbered n last v
+numbered-made n last v h from = let p = both (leb 1 (v .form)) (leb (v .form) last) (rw from at h) in omega (arith, leb-true)
+
+numbered-tests : (n last : ℕ) (v : Vehicle) → Numbered n last v → numbered n last v ≡ true
+numbered-tests n last v f = by (isFrom n v) refl
+  where
+    by : (b : Bool) → isFrom n v ≡ b → (not b || (leb 1 (v .form) && leb (v .form) last)) ≡ true
+    by true from = let p = f from in and (leb 1 (v .form)) (leb (v .form) last) (omega (arith, le-leb)) (omega (arith, le-leb))
+    by false from = refl
+
 -- ---- a desk
 
 -- its figures in range
@@ -89,20 +105,20 @@ pub record DeskMade (n : ℕ) (d : Desk) (l : List Vehicle) : Type 0 where
   pub present : countFrom n l ≤ d .sent
   pub bounds : Bounds d
   pub interval : notLater (d .interval) (d .clock) ≡ true
-  pub number : all (numbered n (d .last)) l ≡ true
+  pub number : Every (Numbered n (d .last)) l
 
 pub desk-made : (n : ℕ) (d : Desk) (l : List Vehicle) → every (deskTests n d l) ≡ true → DeskMade n d l
-desk-made n d l h = let e = each-holds (deskTests n d l) h in search (leb-true, arith) depth 12
+desk-made n d l h = let e = each-holds (deskTests n d l) h in search (leb-true, all-every, numbered-made, arith) depth 12
 
 pub desk-tests : (n : ℕ) (d : Desk) (l : List Vehicle) → DeskMade n d l → every (deskTests n d l) ≡ true
-desk-tests n d l m = every-holds (deskTests n d l) (search (le-leb, arith) depth 12)
+desk-tests n d l m = every-holds (deskTests n d l) (search (le-leb, every-all, numbered-tests, arith) depth 12)
 
 -- ---- the section
 
 pub record SectionMade (s : Section) : Type 0 where
   pub fits : s .len ≤ 24
   pub blank : all isBlank (drop (s .len) (s .vehicles)) ≡ true
-  pub shape : all shaped (lineOf s) ≡ true
+  pub shape : Every Shape (lineOf s)
   pub order : ordered (lineOf s) ≡ true
   pub distinct : differ (lineOf s) ≡ true
   pub a : DeskMade 1 (s .a) (lineOf s)
@@ -111,11 +127,11 @@ pub record SectionMade (s : Section) : Type 0 where
 
 pub section-made : (s : Section) → wellMade s ≡ true → SectionMade s
 unfolding wellMade
-section-made s h = let e = each-holds (madeTests s) h in search (leb-true, desk-made, arith) depth 12
+section-made s h = let e = each-holds (madeTests s) h in search (leb-true, all-every, shape-of, desk-made, arith) depth 12
 
 pub section-tests : (s : Section) → SectionMade s → wellMade s ≡ true
 unfolding wellMade
-section-tests s m = every-holds (madeTests s) (search (le-leb, desk-tests) depth 12)
+section-tests s m = every-holds (madeTests s) (search (le-leb, every-all, shape-tests, desk-tests) depth 12)
 
 pub desk-of : (s : Section) (x : Station) → SectionMade s → DeskMade (numberAt x) (deskOf s x) (lineOf s)
 desk-of s A m = m .a

@@ -4,8 +4,8 @@
 -- Assumes nothing.
 use Prim.Native.Nat.{_+_, _<_, ℕ}
 use Rattle.working.proofs.Changes.{change}
+use Rattle.working.proofs.Every.{Every, every-at}
 use Rattle.working.proofs.Kept.{Good, good-emptied, good-step}
-use Rattle.working.proofs.Line.{Every, every-at}
 use Rattle.working.proofs.Lists.{StepDid, each-result, join-run, split-run, step-by, step-did}
 use Rattle.working.proofs.Made.{length-line}
 use Rattle.working.proofs.Opposed.{opposed-openers}
@@ -17,7 +17,7 @@ use Rattle.working.specs.Demand3.{AcceptedAt, Demand3, ReceivesIt, formI
 use Rattle.working.specs.Departures.{departureOf, leftSlowly}
 use Rattle.working.specs.Events.{decode}
 use Rattle.working.specs.Runs.{Done, Run, StepBy, next, stop}
-use Rattle.working.specs.Sections.{deskOf, fresh, lineOf, otherAt}
+use Rattle.working.specs.Sections.{deskOf, fresh, lineOf, otherAt, unused}
 use Rattle.working.specs.Steps.{stepOf}
 use Rattle.working.specs.WellMade.{isOpener}
 use Rattle.working.specs.declared.Answer.{Answer}
@@ -95,7 +95,7 @@ demand3 {l} {s} run = record {
     len = length-line s (k .good .sound .places) (k .good .sound .well)
 
     told : (i : ℕ) → i < s .len → Told l (vehicleAt s i)
-    told i there = every-at (Told l) (lineOf s) (k .told) i (omega (arith, len))
+    told i there = every-at (Told l) unused (lineOf s) (k .told) i (omega (arith, len))
 
     slow : (i : ℕ) → i < s .len → isOpener (vehicleAt s i .movement) ≡ true → leftSlowly (departureOf l (vehicleAt s i)) ≡ true
     slow i there opener = let t = told i there in rw (t .is) (t .slowly opener)

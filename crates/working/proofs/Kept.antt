@@ -3,10 +3,10 @@
 -- Assumes nothing.
 use Prim.Native.Nat.{_≤_, suc, ℕ}
 use Rattle.working.proofs.Changes.{Change, Sound, arrival, change, departure, emptying, meeting, nearest-of, refusal, sound-emptied, sound-step, well-arrive, well-at, well-depart}
-use Rattle.working.proofs.Clauses.{shape-of}
-use Rattle.working.proofs.Invariant.{Half, Halves, quiet}
-use Rattle.working.proofs.Line.{number-other, number-same}
-use Rattle.working.proofs.Made.{Well, all-far, line-with, not-other, other-sender, shape-rest}
+use Rattle.working.proofs.Clauses.{Shape}
+use Rattle.working.proofs.Invariant.{Half, Halves, openers, quiet}
+use Rattle.working.proofs.Line.{From, every-end, not-other, number-same, ordered-far}
+use Rattle.working.proofs.Made.{Well, line-with, other-sender}
 use Rattle.working.proofs.Meeting.{turn-length}
 use Rattle.working.proofs.Plans.{Departs}
 use Rattle.working.proofs.Receipts.{Receipt, far, keeps-far, keeps-own, own, receipt}
@@ -15,9 +15,8 @@ use Rattle.working.specs.Acts.{Act}
 use Rattle.working.specs.Effects.{Departing, arriveDesk}
 use Rattle.working.specs.Events.{Decoded, decode}
 use Rattle.working.specs.Reasons.{mayEnter}
-use Rattle.working.specs.Sections.{deskOf, emptied, freshDesk, insertAt, lineOf, numberAt, otherAt, withDesk, withLine}
+use Rattle.working.specs.Sections.{deskOf, emptied, freshDesk, insertAt, lineOf, otherAt, withDesk, withLine}
 use Rattle.working.specs.Steps.{metAt, stepOf, turnAt}
-use Rattle.working.specs.WellMade.{isFrom}
 use Rattle.working.specs.declared.Desk.{Desk}
 use Rattle.working.specs.declared.Section.{Section}
 use Rattle.working.specs.declared.Station.the-variants.{A, B}
@@ -25,7 +24,7 @@ use Rattle.working.specs.declared.Station.{Station}
 use Rattle.working.specs.declared.Stepped.{Stepped}
 use Rattle.working.specs.declared.Vehicle.{Vehicle}
 use lib.ListN.{length}
-use mathlib.Core.Bool.{Bool, false, true}
+use mathlib.Core.Bool.{Bool, true}
 use mathlib.Core.List.{List, []}
 use mathlib.Core.Path.{_≡_, refl}
 use native.Mathlib.Omega.{arith}
@@ -51,9 +50,8 @@ kept-with s B e l w h = rw (line-with 24 l (w .fits)) (record { own = h .far; fa
 kept-depart : (s : Section) (act : Act) (x : Station) (p : Departing) → Good s → Departs act x (deskOf s x) p
     → Between x (p .desk) (deskOf s (otherAt x)) (insertAt x (p .vehicle) (lineOf s))
 kept-depart s act x p g q =
-    let own : isFrom (numberAt x) (p .vehicle) ≡ true = rw (q .sender) (number-same x) in
-    let past : isFrom (numberAt (otherAt x)) (p .vehicle) ≡ false = rw (q .sender) (number-other x) in
-    rw (moves-own x (p .vehicle) (lineOf s) own, moves-past x (p .vehicle) (lineOf s) past)
+    let own : From x (p .vehicle) = rw (q .sender) (number-same x) in
+    rw (moves-own x (p .vehicle) (lineOf s) own, moves-past x (p .vehicle) (lineOf s) (not-other x (p .vehicle) own))
     (q .keeps (deskOf s (otherAt x)) (movesOf x (lineOf s)) (movesOf (otherAt x) (lineOf s)) (kept-at x s g))
 
 kept-arrive : (s : Section) (x : Station) (time : ℕ) (v : Vehicle) (l : List Vehicle) → Good s → lineOf s ≡ insertAt x v l → mayEnter x v ≡ true
@@ -76,10 +74,10 @@ kept-arrive s x time v l g e may = by (receipt x d time v may)
     by (own is opener) =
         keeps-own d o time (v .movement) (movesOf x l) (movesOf (otherAt x) l) opener (rw (moves-own x v l is, moves-past x v l (not-other x v is)) at k)
     by (far is) =
-        let shape = shape-rest x d o d v l w .0 in
-        let none-own = moves-none x l (all-far x d o d v l w is) in
+        let shape = every-end Shape x v l (w .shape) .1 in
+        let none-own = moves-none x l (ordered-far x v l is (w .order) .1) in
         rw none-own
-        (keeps-far d o time (v .class) (v .movement) (movesOf (otherAt x) l) (shape-of v shape .moves)
+        (keeps-far d o time (v .class) (v .movement) (movesOf (otherAt x) l) (shape .moves)
         (rw (moves-skip x v l is, none-own, moves-far x v l (other-sender x v shape is)) at k))
 
 -- nothing in the section, and nothing on the desks
@@ -87,7 +85,7 @@ kept-emptied : Between A freshDesk freshDesk []
 kept-emptied = record { own = half; far = half }
   where
     half : Half freshDesk freshDesk [] []
-    half = quiet refl refl refl refl refl refl
+    half = quiet refl refl refl refl tt (openers tt)
 
 kept-change : (s : Section) (e : Decoded) (r : Stepped) → Good s → Change s e r → Between A (r .section .a) (r .section .b) (lineOf (r .section))
 kept-change s e r g (refusal k why) = g .kept

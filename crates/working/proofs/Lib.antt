@@ -8,6 +8,7 @@ pub mod Counted
 pub mod Demand3
 pub mod Edges
 pub mod EntryTable
+pub mod Every
 pub mod Examples
 pub mod Fields
 pub mod FirstEntry

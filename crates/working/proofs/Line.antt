@@ -2,7 +2,8 @@
 -- By cases on the station, A at the front of the list and B at its back.
 -- Assumes nothing.
 use Prim.Native.Nat.{_+_, _-_, _<_, suc, zero, ℕ}
-use Rattle.working.proofs.Tests.{and, both}
+use Rattle.working.proofs.Every.{Every, all-every, every-add, every-before}
+use Rattle.working.proofs.Tests.{both, clash}
 use Rattle.working.specs.Sections.{insertAt, nearestAt, numberAt, otherAt, removeAt, unused}
 use Rattle.working.specs.Steps.{turnAt, turned}
 use Rattle.working.specs.WellMade.{all, differ, isFrom, ordered, same, sumOver}
@@ -11,9 +12,9 @@ use Rattle.working.specs.declared.Station.{Station}
 use Rattle.working.specs.declared.Vehicle.{Vehicle}
 use borrow.Author.Tests.{eq-eqb, eqb-false, eqb-true, ne-eqb}
 use lib.Dec.{eqb}
-use lib.ListN.{getD, length, length-append}
+use lib.ListN.{length, length-append}
 use lib.Seq.{getD-append-seam, take-append-seam}
-use mathlib.Core.Bool.{Bool, _&&_, cond, false, false≢true, not, true}
+use mathlib.Core.Bool.{Bool, _&&_, cond, false, not, true}
 use mathlib.Core.List.{List, [], _++_, _∷_}
 use mathlib.Core.Path.{_∙_, _≡_, ap, ap₂, refl, sym}
 use native.Mathlib.Omega.{arith}
@@ -31,6 +32,20 @@ number-other B = refl
 pub other-number : (x : Station) → eqb (numberAt (otherAt x)) (numberAt x) ≡ false
 other-number A = refl
 other-number B = refl
+
+-- v is station x's, and is not
+abbrev pub From : Station → Vehicle → Type 0
+From x v = isFrom (numberAt x) v ≡ true
+
+abbrev pub NotFrom : Station → Vehicle → Type 0
+NotFrom x v = isFrom (numberAt x) v ≡ false
+
+-- it is one's or the other's
+pub not-other : (x : Station) (v : Vehicle) → From x v → NotFrom (otherAt x) v
+not-other x v e = rw (eqb-true (v .sender) (numberAt x) e) (number-other x)
+
+pub not-own : (x : Station) (v : Vehicle) → From (otherAt x) v → NotFrom x v
+not-own x v e = rw (eqb-true (v .sender) (numberAt (otherAt x)) e) (other-number x)
 
 pub other-other : (x : Station) → otherAt (otherAt x) ≡ x
 other-other A = refl
@@ -72,10 +87,6 @@ length-remove x l h =
 
 -- ---- predicates on the line
 
-pub all-map : (p q : Vehicle → Bool) → ((v : Vehicle) → p v ≡ true → q v ≡ true) → (l : List Vehicle) → all p l ≡ true → all q l ≡ true
-all-map p q f [] h = refl
-all-map p q f (v ∷ l) h = let k = both (p v) (all p l) h in and (q v) (all q l) (f v (k .0)) (all-map p q f l (k .1))
-
 pub all-insert : (p : Vehicle → Bool) (x : Station) (v : Vehicle) (l : List Vehicle) → all p (insertAt x v l) ≡ (p v && all p l)
 all-insert p A v l = refl
 all-insert p B v [] = refl
@@ -91,7 +102,7 @@ sum-insert f A v l = refl
 sum-insert f B v [] = refl
 sum-insert f B v (u ∷ l) = omega (arith, sum-insert f B v l)
 
-eqb-sym : (m n : ℕ) → eqb m n ≡ eqb n m
+pub eqb-sym : (m n : ℕ) → eqb m n ≡ eqb n m
 eqb-sym m n = go (eqb n m) refl
   where
     go : (b : Bool) → eqb n m ≡ b → eqb m n ≡ b
@@ -129,50 +140,32 @@ from-two-ordered (v ∷ l) e =
     rw (q, e)
 
 -- behind a vehicle of the other station there is only the other station's
-pub ordered-far : (x : Station) (v : Vehicle) (l : List Vehicle) → isFrom (numberAt x) v ≡ false → ordered (insertAt x v l) ≡ true
-    → (ordered l ≡ true) × (all (isFrom (numberAt (otherAt x))) l ≡ true)
+pub ordered-far : (x : Station) (v : Vehicle) (l : List Vehicle) → NotFrom x v → ordered (insertAt x v l) ≡ true → (ordered l ≡ true) × Every (From (otherAt x)) l
 ordered-far A v l e h =
     let q : (isFrom 2 v && all (isFrom 2) l) ≡ true = rw e at h in
     let r = both (isFrom 2 v) (all (isFrom 2) l) q .1 in
-    (from-two-ordered l r, r)
-ordered-far B v [] e h = (refl, refl)
-ordered-far B v (u ∷ l) e h = go (λ k. ordered-far B v l e k) (isFrom 1 u) refl
+    (from-two-ordered l r, all-every (isFrom 2) (From B) (λ u from. from) l r)
+ordered-far B v [] e h = (refl, tt)
+ordered-far B v (u ∷ l) e h = by (ordered-far B v l e) (isFrom 1 u) refl
   where
-    go : (ordered (l ++ v ∷ []) ≡ true → (ordered l ≡ true) × (all (isFrom 1) l ≡ true))
-        → (b : Bool) → isFrom 1 u ≡ b → (ordered (u ∷ l) ≡ true) × (all (isFrom 1) (u ∷ l) ≡ true)
-    go more true p =
-        let r = more (rw p at h) in
-        (rw p (r .0), rw p (r .1))
-    go more false p =
+    by : (ordered (l ++ v ∷ []) ≡ true → (ordered l ≡ true) × Every (From A) l) → (b : Bool) → isFrom 1 u ≡ b → (ordered (u ∷ l) ≡ true) × Every (From A) (u ∷ l)
+    by more true p = let r = more (rw p at h) in (rw p (r .0), (p, r .1))
+    by more false p =
         let q : (isFrom 2 u && all (isFrom 2) (l ++ v ∷ [])) ≡ true = rw p at h in
         let r : (isFrom 2 v && all (isFrom 2) l) ≡ true = rw (all-insert (isFrom 2) B v l) at (both (isFrom 2 u) (all (isFrom 2) (l ++ v ∷ [])) q .1) in
-        absurd (false≢true (sym e ∙ both (isFrom 2 v) (all (isFrom 2) l) r .0))
+        absurd (clash (both (isFrom 2 v) (all (isFrom 2) l) r .0) e)
 
 -- ---- a statement about every vehicle of a line
 
-abbrev pub Every : (Vehicle → Type 0) → List Vehicle → Type 0
-Every P [] = Unit {0}
-Every P (v ∷ l) = P v × Every P l
-
-pub every-at : (P : Vehicle → Type 0) (l : List Vehicle) → Every P l → (i : ℕ) → i < length l → P (getD l i unused)
-every-at P [] h i k = absurd (omega arith)
-every-at P (v ∷ l) h zero k = h .0
-every-at P (v ∷ l) h (suc i) k = every-at P l (h .1) i (omega arith)
-
 module _ (P : Vehicle → Type 0) where
-  pub every-map : (Q : Vehicle → Type 0) → ((v : Vehicle) → P v → Q v) → (l : List Vehicle) → Every P l → Every Q l
-  every-map Q f [] h = tt
-  every-map Q f (v ∷ l) h = (f v (h .0), every-map Q f l (h .1))
-
   pub every-insert : (x : Station) (v : Vehicle) (l : List Vehicle) → P v → Every P l → Every P (insertAt x v l)
   every-insert A v l p h = (p, h)
-  every-insert B v [] p h = (p, tt)
-  every-insert B v (u ∷ l) p h = (h .0, every-insert B v l p (h .1))
+  every-insert B v l p h = every-add P l v h p
 
-  pub every-rest : (x : Station) (v : Vehicle) (l : List Vehicle) → Every P (insertAt x v l) → Every P l
-  every-rest A v l h = h .1
-  every-rest B v [] h = tt
-  every-rest B v (u ∷ l) h = (h .0, every-rest B v l (h .1))
+  -- the one at x's end, and the rest
+  pub every-end : (x : Station) (v : Vehicle) (l : List Vehicle) → Every P (insertAt x v l) → Every P l × P v
+  every-end A v l h = (h .1, h .0)
+  every-end B v l h = every-before P l v h
 
   pub every-turn : (z : Station) → ((v : Vehicle) → P v → P (turned z v)) → (i : ℕ) (l : List Vehicle) → Every P l → Every P (turnAt z i l)
   every-turn z f i [] h = tt

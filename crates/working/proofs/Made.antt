@@ -2,25 +2,26 @@
 -- Each clause is a law of the line; there is room for a twenty-fifth vehicle nowhere, since each station has sent at most twelve.
 -- Assumes nothing.
 use Prim.Native.Nat.{_+_, _-_, _<_, _≤_, suc, zero, ℕ}
-use Rattle.working.proofs.Clauses.{DeskMade, desk-of, section-made, section-tests, shape-of}
-use Rattle.working.proofs.Line.{all-insert, all-map, differ-insert, insert-length, number-other, ordered-far, ordered-own, other-number, sum-insert}
+use Rattle.working.proofs.Clauses.{DeskMade, Numbered, Shape, desk-of, section-made, section-tests}
+use Rattle.working.proofs.Every.{Every, every-all, every-map}
+use Rattle.working.proofs.Line.{From, NotFrom, differ-insert, eqb-sym, every-end, every-insert, insert-length, not-other, not-own, ordered-far, ordered-own, sum-insert}
 use Rattle.working.proofs.Plans.{Departs}
 use Rattle.working.proofs.Receipts.{Arrives}
 use Rattle.working.proofs.Tests.{and, both, clash, or-second}
 use Rattle.working.specs.Acts.{Act}
 use Rattle.working.specs.Effects.{Departing}
 use Rattle.working.specs.Sections.{deskOf, insertAt, lineOf, numberAt, otherAt, padTo, unused, withDesk, withLine}
-use Rattle.working.specs.WellMade.{all, countFrom, differ, isBlank, isFrom, numbered, oneIf, ordered, same, shaped, wellMade}
+use Rattle.working.specs.WellMade.{all, countFrom, differ, isBlank, isFrom, oneIf, ordered, same, wellMade}
 use Rattle.working.specs.declared.Desk.{Desk}
 use Rattle.working.specs.declared.Section.{Section}
 use Rattle.working.specs.declared.Station.the-variants.{A, B}
 use Rattle.working.specs.declared.Station.{Station}
 use Rattle.working.specs.declared.Vehicle.{Vehicle}
-use borrow.Author.Tests.{eq-eqb, eqb-true, le-leb, leb-true, ne-eqb}
-use lib.Dec.{eqb, leb}
+use borrow.Author.Tests.{eq-eqb, eqb-true, ne-eqb}
+use lib.Dec.{eqb}
 use lib.ListN.{drop, length, take}
 use lib.Seq.{length-take-le}
-use mathlib.Core.Bool.{Bool, _&&_, _||_, false, not, true}
+use mathlib.Core.Bool.{Bool, _&&_, false, not, or-false, true}
 use mathlib.Core.List.{List, [], _∷_}
 use mathlib.Core.Path.{_∙_, _≡_, ap, refl, sym}
 use native.Mathlib.Omega.{arith}
@@ -29,119 +30,81 @@ use native.Mathlib.Omega.{arith}
 
 pub record Well (x : Station) (d o : Desk) (l : List Vehicle) : Type 0 where
   pub fits : length l ≤ 24
-  pub shape : all shaped l ≡ true
+  pub shape : Every Shape l
   pub order : ordered l ≡ true
   pub distinct : differ l ≡ true
   pub own : DeskMade (numberAt x) d l
   pub far : DeskMade (numberAt (otherAt x)) o l
 
 -- every vehicle is one station's or the other's
-pub other-sender : (x : Station) (v : Vehicle) → shaped v ≡ true → isFrom (numberAt x) v ≡ false → isFrom (numberAt (otherAt x)) v ≡ true
-other-sender A v h e = or-second (eqb (v .sender) 1) (eqb (v .sender) 2) (shape-of v h .sender) e
-other-sender B v h e = go (eqb (v .sender) 1) refl
-  where
-    go : (b : Bool) → eqb (v .sender) 1 ≡ b → eqb (v .sender) 1 ≡ true
-    go true p = p
-    go false p = absurd (clash (or-second (eqb (v .sender) 1) (eqb (v .sender) 2) (shape-of v h .sender) p) e)
+pub other-sender : (x : Station) (v : Vehicle) → Shape v → NotFrom x v → From (otherAt x) v
+other-sender A v h e = or-second (eqb (v .sender) 1) (eqb (v .sender) 2) (h .sender) e
+other-sender B v h e = sym (or-false (eqb (v .sender) 1)) ∙ rw e at (h .sender)
 
--- one of the two
-pub not-other : (x : Station) (v : Vehicle) → isFrom (numberAt x) v ≡ true → isFrom (numberAt (otherAt x)) v ≡ false
-not-other x v e = rw (eqb-true (v .sender) (numberAt x) e) (number-other x)
-
-counted : (x : Station) (l : List Vehicle) → all shaped l ≡ true → countFrom (numberAt x) l + countFrom (numberAt (otherAt x)) l ≡ length l
+counted : (x : Station) (l : List Vehicle) → Every Shape l → countFrom (numberAt x) l + countFrom (numberAt (otherAt x)) l ≡ length l
 counted x [] h = refl
-counted x (v ∷ l) h =
-    let p = both (shaped v) (all shaped l) h in
-    let c = counted x l (p .1) in
-    let one = go (isFrom (numberAt x) v) refl (p .0) in
-    omega arith
+counted x (v ∷ l) h = omega (arith, counted x l (h .1), by (isFrom (numberAt x) v) refl)
   where
-    go : (b : Bool) → isFrom (numberAt x) v ≡ b → shaped v ≡ true → oneIf (isFrom (numberAt x) v) + oneIf (isFrom (numberAt (otherAt x)) v) ≡ 1
-    go true e p = rw (e, not-other x v e)
-    go false e p = rw (e, other-sender x v p e)
+    by : (b : Bool) → isFrom (numberAt x) v ≡ b → oneIf (isFrom (numberAt x) v) + oneIf (isFrom (numberAt (otherAt x)) v) ≡ 1
+    by true from = rw (from, not-other x v from)
+    by false from = rw (from, other-sender x v (h .0) from)
 
 -- there is room for one more
 pub room-of : {x : Station} {d o : Desk} {l : List Vehicle} → Well x d o l → d .sent < 12 → length l < 24
 room-of {x} {d} {o} {l} w h = omega (arith, counted x l (w .shape), w .own .present, w .far .present, w .far .sent)
 
--- ---- form numbers
-
-pub numbered-of : (n last : ℕ) (v : Vehicle) → numbered n last v ≡ true → isFrom n v ≡ true → (1 ≤ v .form) × (v .form ≤ last)
-numbered-of n last v h from = let p = both (leb 1 (v .form)) (leb (v .form) last) (rw from at h) in omega (arith, leb-true)
-
-numbered-is : (n last : ℕ) (v : Vehicle) → (isFrom n v ≡ true → (1 ≤ v .form) × (v .form ≤ last)) → numbered n last v ≡ true
-numbered-is n last v f = by (isFrom n v) refl
-  where
-    by : (b : Bool) → isFrom n v ≡ b → (not b || (leb 1 (v .form) && leb (v .form) last)) ≡ true
-    by true from = and (leb 1 (v .form)) (leb (v .form) last) (le-leb 1 (v .form) (f from .0)) (le-leb (v .form) last (f from .1))
-    by false from = refl
-
--- one with another form number is not the same
-pub other-form : (v w : Vehicle) (last : ℕ) → numbered (v .sender) last w ≡ true → v .form ≡ last + 1 → same v w ≡ false
-other-form v w last h next = by (eqb (v .sender) (w .sender)) refl
+-- one with an earlier form number is another
+other-form : (v w : Vehicle) (last : ℕ) → Numbered (v .sender) last w → v .form ≡ last + 1 → same v w ≡ false
+other-form v w last number next = by (eqb (v .sender) (w .sender)) refl
   where
     by : (b : Bool) → eqb (v .sender) (w .sender) ≡ b → (b && eqb (v .form) (w .form)) ≡ false
-    by true is =
-        let from : isFrom (v .sender) w ≡ true = eq-eqb (w .sender) (v .sender) (sym (eqb-true (v .sender) (w .sender) is)) in
-        let most = numbered-of (v .sender) last w h from in
-        ne-eqb (v .form) (w .form) (λ z. omega arith)
+    by true is = ne-eqb (v .form) (w .form) (λ same. omega (arith, number (eqb-sym (w .sender) (v .sender) ∙ is)))
     by false is = refl
 
--- the tests of the other's desk do not see a vehicle that is not its own
-far-made : (n : ℕ) (o : Desk) (x : Station) (v : Vehicle) (l : List Vehicle) → isFrom n v ≡ false → DeskMade n o l → DeskMade n o (insertAt x v l)
-far-made n o x v l skip m =
-    let unused : oneIf (isFrom n v) ≡ 0 = rw skip in
-    record {
-      last = m .last;
-      sent = m .sent;
-      present = omega (arith, sum-insert (λ u. oneIf (isFrom n u)) x v l, m .present);
-      bounds = m .bounds;
-      interval = m .interval;
-      number = all-insert (numbered n (o .last)) x v l ∙ rw skip (m .number);
-    }
+count-insert : (n : ℕ) (x : Station) (v : Vehicle) (l : List Vehicle) → countFrom n (insertAt x v l) ≡ oneIf (isFrom n v) + countFrom n l
+count-insert n = sum-insert (λ v. oneIf (isFrom n v))
 
 -- a vehicle with the next form number leaves x
-pub well-insert : (act : Act) (x : Station) (d o : Desk) (p : Departing) (l : List Vehicle) → Well x d o l → Departs act x d p → Well x (p .desk) o (insertAt x (p .vehicle) l)
+pub well-insert : (act : Act) (x : Station) (d o : Desk) (p : Departing) (l : List Vehicle) → Well x d o l → Departs act x d p
+    → Well x (p .desk) o (insertAt x (p .vehicle) l)
 well-insert act x d o p l w q =
     let v = p .vehicle in
     let n = numberAt x in
-    let last = p .desk .last in
-    let from : isFrom n v ≡ true = eq-eqb (v .sender) n (q .sender) in
+    let m = numberAt (otherAt x) in
+    let from : From x v = eq-eqb (v .sender) n (q .sender) in
     let one : oneIf (isFrom n v) ≡ 1 = rw from in
-    let differs = all-map (numbered n (d .last)) (λ u. not (same v u)) (λ u h. rw (other-form v u (d .last) (rw (q .sender) h) (q .form))) l (w .own .number) in
-    let numbered-all = all-map (numbered n (d .last)) (numbered n last) (λ u h. numbered-is n last u (λ from. let most = numbered-of n (d .last) u h from in omega (arith, q .last))) l (w .own .number) in
+    let none : oneIf (isFrom m v) ≡ 0 = rw (not-other x v from) in
+    let differs = every-all (λ u. not (same v u)) (Numbered n (d .last)) (λ u number. rw (other-form v u (d .last) (rw (q .sender) number) (q .form))) l (w .own .number) in
+    let earlier = every-map (Numbered n (d .last)) (Numbered n (p .desk .last)) (λ u number from. omega (arith, number from, q .last)) l (w .own .number) in
     record {
       fits = omega (arith, insert-length x v l, room-of w (q .room));
-      shape = all-insert shaped x v l ∙ and (shaped v) (all shaped l) (q .shape) (w .shape);
+      shape = every-insert Shape x v l (q .shape) (w .shape);
       order = ordered-own x v l (q .sender) ∙ w .order;
       distinct = differ-insert x v l ∙ and (all (λ u. not (same v u)) l) (differ l) differs (w .distinct);
       own = record {
         last = omega (arith, q .last, q .unused);
         sent = omega (arith, q .sent, q .room);
-        present = omega (arith, sum-insert (λ u. oneIf (isFrom n u)) x v l, w .own .present, q .sent);
+        present = omega (arith, count-insert n x v l, w .own .present, q .sent);
         bounds = q .bounds;
         interval = q .interval;
-        number = all-insert (numbered n last) x v l
-            ∙ and (numbered n last v) (all (numbered n last) l) (numbered-is n last v (λ from. omega (arith, q .last, q .form))) numbered-all;
+        number = every-insert (Numbered n (p .desk .last)) x v l (λ from. omega (arith, q .last, q .form)) earlier;
       };
-      far = far-made (numberAt (otherAt x)) o x v l (not-other x v from) (w .far);
+      far = record {
+        last = w .far .last;
+        sent = w .far .sent;
+        present = omega (arith, count-insert m x v l, w .far .present);
+        bounds = w .far .bounds;
+        interval = w .far .interval;
+        number = every-insert (Numbered m (o .last)) x v l (λ theirs. absurd (clash theirs (not-other x v from))) (w .far .number);
+      };
     }
 
 -- v is taken at x: what does not turn on whose it is
 module _ (x : Station) (d o e : Desk) (v : Vehicle) (l : List Vehicle) (w : Well x d o (insertAt x v l)) where
-  pub shape-rest : (shaped v ≡ true) × (all shaped l ≡ true)
-  shape-rest = both (shaped v) (all shaped l) (sym (all-insert shaped x v l) ∙ w .shape)
-
-  numbered-rest : (n last : ℕ) → all (numbered n last) (insertAt x v l) ≡ true → all (numbered n last) l ≡ true
-  numbered-rest n last h = both (numbered n last v) (all (numbered n last) l) (sym (all-insert (numbered n last) x v l) ∙ h) .1
-
-  count-rest : (n : ℕ) → countFrom n (insertAt x v l) ≡ oneIf (isFrom n v) + countFrom n l
-  count-rest n = sum-insert (λ u. oneIf (isFrom n u)) x v l
-
   well-rest : ordered l ≡ true → (m : ℕ) → Arrives d e m → countFrom (numberAt x) l ≤ m → m ≤ 12 → Well x e o l
   well-rest order m a count sent = record {
     fits = omega (arith, insert-length x v l, w .fits);
-    shape = shape-rest .1;
+    shape = every-end Shape x v l (w .shape) .0;
     order = order;
     distinct = both (all (λ u. not (same v u)) l) (differ l) (sym (differ-insert x v l) ∙ w .distinct) .1;
     own = record {
@@ -150,35 +113,32 @@ module _ (x : Station) (d o e : Desk) (v : Vehicle) (l : List Vehicle) (w : Well
       present = omega (arith, a .sent);
       bounds = a .bounds;
       interval = a .interval;
-      number = rw (a .last) (numbered-rest (numberAt x) (d .last) (w .own .number));
+      number = rw (a .last) (every-end (Numbered (numberAt x) (d .last)) x v l (w .own .number) .0);
     };
     far = record {
       last = w .far .last;
       sent = w .far .sent;
-      present = omega (arith, count-rest (numberAt (otherAt x)), w .far .present);
+      present = omega (arith, count-insert (numberAt (otherAt x)) x v l, w .far .present);
       bounds = w .far .bounds;
       interval = w .far .interval;
-      number = numbered-rest (numberAt (otherAt x)) (o .last) (w .far .number);
+      number = every-end (Numbered (numberAt (otherAt x)) (o .last)) x v l (w .far .number) .0;
     };
   }
 
-  pub well-own : isFrom (numberAt x) v ≡ true → Arrives d e (d .sent - 1) → Well x e o l
+  pub well-own : From x v → Arrives d e (d .sent - 1) → Well x e o l
   well-own is a =
       let one : oneIf (isFrom (numberAt x) v) ≡ 1 = rw is in
-      well-rest (sym (ordered-own x v l (eqb-true (v .sender) (numberAt x) is)) ∙ w .order) (d .sent - 1) a (omega (arith, count-rest (numberAt x), w .own .present)) (omega (arith, w .own .sent))
+      well-rest (sym (ordered-own x v l (eqb-true (v .sender) (numberAt x) is)) ∙ w .order) (d .sent - 1) a
+      (omega (arith, count-insert (numberAt x) x v l, w .own .present)) (omega (arith, w .own .sent))
 
-  pub all-far : isFrom (numberAt x) v ≡ false → all (isFrom (numberAt (otherAt x))) l ≡ true
-  all-far is = ordered-far x v l is (w .order) .1
-
-  pub well-far : isFrom (numberAt x) v ≡ false → Arrives d e 0 → Well x e o l
-  well-far is a = well-rest (ordered-far x v l is (w .order) .0) 0 a (omega (arith, none-own l (all-far is))) (omega arith)
+  pub well-far : NotFrom x v → Arrives d e 0 → Well x e o l
+  well-far is a =
+      let (order, all-far) = ordered-far x v l is (w .order) in
+      well-rest order 0 a (omega (arith, none-own l all-far)) (omega arith)
     where
-      none-own : (l : List Vehicle) → all (isFrom (numberAt (otherAt x))) l ≡ true → countFrom (numberAt x) l ≡ 0
+      none-own : (l : List Vehicle) → Every (From (otherAt x)) l → countFrom (numberAt x) l ≡ 0
       none-own [] h = refl
-      none-own (u ∷ l) h =
-          let p = both (isFrom (numberAt (otherAt x)) u) (all (isFrom (numberAt (otherAt x))) l) h in
-          let q : isFrom (numberAt x) u ≡ false = rw (eqb-true (u .sender) (numberAt (otherAt x)) (p .0)) (other-number x) in
-          rw (q, none-own l (p .1))
+      none-own (u ∷ l) h = rw (not-own x u (h .0), none-own l (h .1))
 
 -- ---- the section
 

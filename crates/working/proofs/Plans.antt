@@ -2,7 +2,7 @@
 -- is kept, and that an OPEN or THROUGH leaves on T/B 602 at 15 km/h or less. The tests that passed say the rest.
 -- Assumes nothing.
 use Prim.Native.Nat.{_%_, _+_, _<_, _≤_, ℕ}
-use Rattle.working.proofs.Clauses.{Bounds, MovementMade, Shape, shape-tests}
+use Rattle.working.proofs.Clauses.{Bounds, MovementMade, Shape}
 use Rattle.working.proofs.Invariant.{Halves, isOpen, kept-opener, kept-return, kept-train}
 use Rattle.working.proofs.Ranges.{ActMade}
 use Rattle.working.proofs.Reasons.{OpenPasses, depart-passes, open-passes, receive-passes, return-passes, train-passes}
@@ -15,7 +15,7 @@ use Rattle.working.specs.Reasons.{departTests, isNamed, mayEnter, openTe
 use Rattle.working.specs.Refusals.{Test, firstOf}
 use Rattle.working.specs.Sections.{numberAt}
 use Rattle.working.specs.Steps.{planOf, unlessRefused}
-use Rattle.working.specs.WellMade.{isOpener, notLater, shaped}
+use Rattle.working.specs.WellMade.{isOpener, notLater}
 use Rattle.working.specs.declared.Desk.{Desk}
 use Rattle.working.specs.declared.Movement.the-variants.{Open, Return, Through, Train}
 use Rattle.working.specs.declared.Movement.{Movement}
@@ -45,7 +45,7 @@ pub record Departs (act : Act) (x : Station) (d : Desk) (p : Departing) : Type 0
   pub interval : notLater (p .desk .interval) (p .desk .clock) ≡ true
   pub sender : p .vehicle .sender ≡ numberAt x
   pub form : p .vehicle .form ≡ d .last + 1
-  pub shape : shaped (p .vehicle) ≡ true
+  pub shape : Shape (p .vehicle)
   pub keeps : (o : Desk) (mine theirs : List Movement) → Halves d o mine theirs → Halves (p .desk) o (p .vehicle .movement ∷ mine) theirs
   pub kind : kindOf act ≡ some (kindIn (p .vehicle .movement))
   pub slowly : isOpener (p .vehicle .movement) ≡ true → (eqb (p .order .forms % 2) 1 && isSlow (p .order .speed)) ≡ true
@@ -66,12 +66,9 @@ plan-elim P tests p refused ok = by (firstOf tests) refl
 -- ---- what is the same for every departure
 
 -- a vehicle that leaves x is one that the section may have
-shape-for : (x : Station) (n : ℕ) (m : Movement) (class : ℕ) → MovementMade m class → shaped (vehicleFor x n m class) ≡ true
-shape-for x n m class made = shape-tests _ (by x)
-  where
-    by : (x : Station) → Shape (vehicleFor x n m class)
-    by A = record { sender = refl; heading = refl; away = refl; unmet = or-true (isOpener m); moves = made }
-    by B = record { sender = refl; heading = refl; away = refl; unmet = or-true (isOpener m); moves = made }
+shape-for : (x : Station) (n : ℕ) (m : Movement) (class : ℕ) → MovementMade m class → Shape (vehicleFor x n m class)
+shape-for A n m class made = record { sender = refl; heading = refl; away = refl; unmet = or-true (isOpener m); moves = made }
+shape-for B n m class made = record { sender = refl; heading = refl; away = refl; unmet = or-true (isOpener m); moves = made }
 
 -- what each kind has of its own
 record Leaves (act : Act) (d : Desk) (t : ℕ) (to : Standing) (m : Movement) (class : ℕ) (order : Order) : Type 0 where

@@ -3,13 +3,14 @@
 -- Assumes nothing.
 use Prim.Native.Nat.{_+_, _≤_, suc, ℕ}
 use Rattle.working.proofs.Changes.{Change, Sound, arrival, departure, emptying, meeting, nearest-of, refusal, well-arrive, well-at, well-depart}
+use Rattle.working.proofs.Clauses.{Numbered}
+use Rattle.working.proofs.Every.{Every, every-map}
 use Rattle.working.proofs.Invariant.{granted, trainOne, trains}
-use Rattle.working.proofs.Line.{Every, every-insert, every-map, every-rest, every-turn, number-same}
+use Rattle.working.proofs.Line.{eqb-sym, every-end, every-insert, every-turn, number-same}
 use Rattle.working.proofs.Made.{line-after, line-with}
 use Rattle.working.proofs.Meeting.{turn-length}
 use Rattle.working.proofs.Plans.{Departs}
 use Rattle.working.proofs.Sides.{moves-weight, movesOf}
-use Rattle.working.proofs.Tests.{both}
 use Rattle.working.specs.Acts.{Act}
 use Rattle.working.specs.Demand3.{grantedIn, ofStation}
 use Rattle.working.specs.Departures.{Departure, Kind, departureBy, departureOf, departureWith, ifOf, kindIn, kindOf, laterOr, leftOnTrain, leftSlowly}
@@ -18,7 +19,7 @@ use Rattle.working.specs.Events.{At, Bad, Begin, Decoded, Meet, Resume, 
 use Rattle.working.specs.Runs.{Done}
 use Rattle.working.specs.Sections.{deskOf, insertAt, lineOf, numberAt}
 use Rattle.working.specs.Steps.{metAt, turnAt, turned}
-use Rattle.working.specs.WellMade.{all, isFrom, isOpener, numbered, oneIf, sumOver}
+use Rattle.working.specs.WellMade.{isOpener, oneIf, sumOver}
 use Rattle.working.specs.declared.Answer.the-variants.{Accepted, Refused}
 use Rattle.working.specs.declared.Refusal.{Refusal}
 use Rattle.working.specs.declared.Section.{Section}
@@ -26,8 +27,8 @@ use Rattle.working.specs.declared.Station.the-variants.{A}
 use Rattle.working.specs.declared.Station.{Station}
 use Rattle.working.specs.declared.Stepped.{Stepped}
 use Rattle.working.specs.declared.Vehicle.{Vehicle}
-use borrow.Author.Tests.{eq-eqb, eqb-true, leb-true, ne-eqb}
-use lib.Dec.{eqb, leb}
+use borrow.Author.Tests.{eq-eqb, ne-eqb}
+use lib.Dec.{eqb}
 use lib.ListN.{length}
 use mathlib.Core.Bool.{Bool, _&&_, cond, false, true}
 use mathlib.Core.List.{List, [], _++_, _∷_}
@@ -86,21 +87,16 @@ module _ (h : List Done) (d : Done) where
 
   -- it is one, with the next form number of its station
   module _ (p : Departure) (last : ℕ) (e : departureBy (decode (d .bytes)) (d .answer) ≡ some p) (n : p .number ≡ last + 1) where
-    not-its : (v : Vehicle) → numbered (numberAt (p .station)) last v ≡ true → ifOf v (departureBy (decode (d .bytes)) (d .answer)) ≡ none
-    not-its v num = ap (ifOf v) e ∙ ap (λ (b : Bool). cond b (some p) none) (go (eqb (numberAt (p .station)) (v .sender)) refl)
+    not-its : (v : Vehicle) → Numbered (numberAt (p .station)) last v → ifOf v (departureBy (decode (d .bytes)) (d .answer)) ≡ none
+    not-its v number = ap (ifOf v) e ∙ ap (λ (b : Bool). cond b (some p) none) (by (eqb (numberAt (p .station)) (v .sender)) refl)
       where
-        go : (b : Bool) → eqb (numberAt (p .station)) (v .sender) ≡ b → (b && eqb (p .number) (v .form)) ≡ false
-        go false q = refl
-        go true q =
-            let from : isFrom (numberAt (p .station)) v ≡ true = eq-eqb (v .sender) (numberAt (p .station)) (sym (eqb-true (numberAt (p .station)) (v .sender) q)) in
-            let r : (leb 1 (v .form) && leb (v .form) last) ≡ true = rw from at num in
-            ne-eqb (p .number) (v .form) (λ z. omega (arith, leb-true (v .form) last (both (leb 1 (v .form)) (leb (v .form) last) r .1)))
+        by : (b : Bool) → eqb (numberAt (p .station)) (v .sender) ≡ b → (b && eqb (p .number) (v .form)) ≡ false
+        by true is = ne-eqb (p .number) (v .form) (λ same. omega (arith, number (eqb-sym (v .sender) (numberAt (p .station)) ∙ is)))
+        by false is = refl
 
-    one-more : (l : List Vehicle) → all (numbered (numberAt (p .station)) last) l ≡ true → Every (Told h) l → Every (Told (h ++ d ∷ [])) l
-    one-more [] num t = tt
-    one-more (v ∷ l) num t =
-        let a = both (numbered (numberAt (p .station)) last v) (all (numbered (numberAt (p .station)) last) l) num in
-        (told-still v (not-its v (a .0)) (t .0), one-more l (a .1) (t .1))
+    one-more : (l : List Vehicle) → Every (Numbered (numberAt (p .station)) last) l → Every (Told h) l → Every (Told (h ++ d ∷ [])) l
+    one-more [] number t = tt
+    one-more (v ∷ l) number t = (told-still v (not-its v (number .0)) (t .0), one-more l (number .1) (t .1))
 
 -- a refused step is none
 refused-none : (e : Decoded) (why : Refusal) → departureBy e (Refused why) ≡ none
@@ -140,7 +136,7 @@ told-change h d s e r g (arrival x time y n f named may) q a t =
     let k = nearest-of y n x (lineOf s) named in
     let fits = well-arrive s x time (k .vehicle) (k .others) g (k .line) (rw (k .near) at may) .fits in
     rw (k .rest, line-after s x _ (k .others) fits)
-    (none-more h d by (k .others) (every-rest (Told h) x (k .vehicle) (k .others) (rw (k .line) at t)))
+    (none-more h d by (k .others) (every-end (Told h) x (k .vehicle) (k .others) (rw (k .line) at t) .0))
 told-change h d s e r g (meeting x y n i f m) q a t =
     let by : departureBy (decode (d .bytes)) (d .answer) ≡ none = rw q in
     let fits : length (metAt x i (lineOf s)) ≤ 24 = omega (arith, turn-length x (suc i) (turnAt x i (lineOf s)), turn-length x i (lineOf s), well-at s A g .fits) in

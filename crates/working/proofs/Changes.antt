@@ -3,7 +3,7 @@
 -- Assumes nothing.
 use Prim.Native.Nat.{_<_, suc, ℕ}
 use Rattle.working.proofs.Clauses.{Shape}
-use Rattle.working.proofs.Line.{every-end, nearest-insert, remove-insert, split-end}
+use Rattle.working.proofs.Line.{Nearest, every-end, nearest}
 use Rattle.working.proofs.Made.{Well, length-padTo, made-of, well-far, well-insert, well-of, well-own}
 use Rattle.working.proofs.Meeting.{turn-left-on, well-turn}
 use Rattle.working.proofs.Plans.{Departs, Fate, arrives, departs, fate, refuses}
@@ -36,7 +36,7 @@ use lib.ListN.{length}
 use mathlib.Core.Bool.{Bool, false, false≢true, true}
 use mathlib.Core.List.{List, [], _∷_}
 use mathlib.Core.Option.{Option}
-use mathlib.Core.Path.{_∙_, _≡_, ap, refl}
+use mathlib.Core.Path.{_≡_, refl}
 use native.Mathlib.Omega.{arith}
 
 -- a section of 24 places that is well made; the places are what the array's type says
@@ -142,24 +142,8 @@ well-arrive s x time v l g e may = by (receipt x d time v may)
         let moves = every-end Shape x v l (w .shape) .1 .moves in
         well-far x d o (otherDesk d time (v .class) (v .movement)) v l w is (arrives-far d time (v .class) (v .movement) moves (w .own .bounds))
 
--- the line taken apart at the end of a station whose nearest vehicle is named
-pub record Nearest (x : Station) (l : List Vehicle) : Type 0 where
-  pub vehicle : Vehicle
-  pub others : List Vehicle
-  pub line : l ≡ insertAt x vehicle others
-  pub near : nearestAt x l ≡ vehicle
-  pub rest : removeAt x l ≡ others
-
 pub nearest-of : (y : Station) (n : ℕ) (x : Station) (l : List Vehicle) → isNamed y n (nearestAt x l) ≡ true → Nearest x l
-nearest-of y n x l named =
-    let q = split-end x l (named-there y n x l named) in
-    record {
-      vehicle = q .0;
-      others = q .1;
-      line = q .2;
-      near = ap (nearestAt x) (q .2) ∙ nearest-insert x (q .0) (q .1);
-      rest = ap (removeAt x) (q .2) ∙ remove-insert x (q .0) (q .1);
-    }
+nearest-of y n x l named = nearest x l (named-there y n x l named)
 
 sound-arrive : (s : Section) (x : Station) (time : ℕ) (y : Station) (n : ℕ) → Sound s → s .force ≡ true
     → isNamed y n (nearestAt x (lineOf s)) ≡ true → mayEnter x (nearestAt x (lineOf s)) ≡ true

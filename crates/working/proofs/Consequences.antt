@@ -6,10 +6,9 @@ use Rattle.working.proofs.Computing.{step-computes}
 use Rattle.working.proofs.Demand3.{demand3}
 use Rattle.working.proofs.Lists.{Todo, after, done, runs}
 use Rattle.working.proofs.Literals.{begin, figures, opens, plain, receive, resume, returns, returnsAsking, sameSection, through, train, trainGranting, vehicle, working}
-use Rattle.working.proofs.Swap.{isReceive}
 use Rattle.working.proofs.Tests.{both}
 use Rattle.working.specs.Acts as acts
-use Rattle.working.specs.Demand3.{onTheWayTo, trainsOf, vehicleAt}
+use Rattle.working.specs.Demand3.{isDeparture, onTheWayTo, trainsOf, vehicleAt}
 use Rattle.working.specs.Departures.{Departure, Kind, OPEN, RETURN, THROUGH, TRAIN, departureOf, kindIn, leftSlowly}
 use Rattle.working.specs.Effects.{isSlow}
 use Rattle.working.specs.Entries.{every}
@@ -30,7 +29,7 @@ use Rattle.working.specs.declared.Vehicle.{Vehicle}
 use Rattle.working.specs.declared.View.the-variants.{Clear, Impaired}
 use borrow.Author.Tests.{eqb-true}
 use lib.Dec.{eqb}
-use mathlib.Core.Bool.{Bool, _||_, false, false≢true, true}
+use mathlib.Core.Bool.{Bool, _||_, false, false≢true, true, true≢false}
 use mathlib.Core.List.{List, [], _++_, _∷_}
 use mathlib.Core.Option.{Option, none, some}
 use mathlib.Core.Path.{_∙_, _≡_, ap, refl}
@@ -309,7 +308,7 @@ departures-exchanged =
     (record { time = 0; entry = refl; accepted = refl })
     (record { time = 0; entry = refl; accepted = refl })
     B-not-A
-    (λ r. false≢true (ap isReceive (r .1)))
+    (λ r. true≢false (ap isDeparture (r .1)))
 
 -- behind no bytes, which are refused, A opens, holds two line clears and sends its first train. A's second train and B's receipt of the first are neighbours, and
 -- behind them come B's receipt of the second, bytes that are no entry, and a THROUGH of B.

@@ -7,7 +7,7 @@ use Rattle.working.proofs.Demand3.{kept}
 use Rattle.working.proofs.Found.{Found, cut, found, the-end, whole}
 use Rattle.working.proofs.Invariant.{trainOne, trains, weigh-snoc}
 use Rattle.working.proofs.Kept.{kept-at}
-use Rattle.working.proofs.Line.{nearest-insert, split-end}
+use Rattle.working.proofs.Line.{nearest}
 use Rattle.working.proofs.Lists.{split-run, step-did}
 use Rattle.working.proofs.Sides.{moves-far, movesOf}
 use Rattle.working.proofs.Tests.{both}
@@ -138,11 +138,10 @@ pub train-owed : {l : List Done} {s : Section} → Run fresh l s → (x : Statio
     → isFrom (numberAt (otherAt x)) (nearestAt x (lineOf s)) ≡ true → isTrain (kindIn (nearestAt x (lineOf s) .movement)) ≡ true
     → 0 < deskOf s x .clears .owes
 train-owed {s = s} run x there from train =
-    let q = split-end x (lineOf s) there in
-    let v = q .0 in
-    let near : nearestAt x (lineOf s) ≡ v = ap (nearestAt x) (q .2) ∙ nearest-insert x v (q .1) in
-    let from-v : isFrom (numberAt (otherAt x)) v ≡ true = rw near at from in
-    let one : trainOne (v .movement) ≡ 1 = rw (rw near at train) in
-    let theirs : movesOf (otherAt x) (lineOf s) ≡ movesOf (otherAt x) (q .1) ++ v .movement ∷ [] = ap (movesOf (otherAt x)) (q .2) ∙ moves-far x v (q .1) from-v in
-    let counted : trains (movesOf (otherAt x) (lineOf s)) ≡ trains (movesOf (otherAt x) (q .1)) + trainOne (v .movement) = ap trains theirs ∙ weigh-snoc trainOne (movesOf (otherAt x) (q .1)) (v .movement) in
+    let k = nearest x (lineOf s) there in
+    let v = k .vehicle in
+    let far = otherAt x in
+    let one : trainOne (v .movement) ≡ 1 = rw (rw (k .near) at train) in
+    let theirs : movesOf far (lineOf s) ≡ movesOf far (k .others) ++ v .movement ∷ [] = ap (movesOf far) (k .line) ∙ moves-far x v (k .others) (rw (k .near) at from) in
+    let counted : trains (movesOf far (lineOf s)) ≡ trains (movesOf far (k .others)) + trainOne (v .movement) = ap trains theirs ∙ weigh-snoc trainOne (movesOf far (k .others)) (v .movement) in
     omega (arith, kept-at x s (kept run .good) .own .sum)

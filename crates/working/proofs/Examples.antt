@@ -5,16 +5,15 @@ use Rattle.working.proofs.Computing.{reading-computes, step-computes}
 use Rattle.working.proofs.Demand3.{demand3}
 use Rattle.working.proofs.Lists.{Todo, after, done, runs}
 use Rattle.working.proofs.Literals.{begin, opens, receive, returns}
-use Rattle.working.proofs.Swap.{isReceive}
 use Rattle.working.specs.Acts as acts
-use Rattle.working.specs.Demand3.{AcceptedAt, ReceivesIt, onTheWayTo, vehicleAt}
+use Rattle.working.specs.Demand3.{AcceptedAt, ReceivesIt, isDeparture, onTheWayTo, vehicleAt}
 use Rattle.working.specs.Runs.{Done, Run, byValue, inPlace}
 use Rattle.working.specs.Sections.{deskOf, fresh, numberAt}
 use Rattle.working.specs.declared.Answer.the-variants.{Accepted}
 use Rattle.working.specs.declared.Speed.the-variants.{Kmh, NoSpeed, Walking}
 use Rattle.working.specs.declared.Station.the-variants.{A, B}
 use Rattle.working.specs.declared.View.the-variants.{Clear, Impaired}
-use mathlib.Core.Bool.{false≢true, true}
+use mathlib.Core.Bool.{true, true≢false}
 use mathlib.Core.List.{List, [], _∷_}
 use mathlib.Core.Path.{_≡_, ap, refl}
 use native.Mathlib.Omega.{arith}
@@ -72,4 +71,4 @@ swapped-list = demand3 (runs fresh two) .swap (begins ∷ []) first second [] A 
     apart e = let z : _≡_ {A = ℕ} 0 1 = cc in omega arith
 
     not-received : ReceivesIt (acts.Open Clear 1 2) A (first .answer) (acts.Open Impaired 1 1) → ⊥
-    not-received r = false≢true (ap isReceive (r .1))
+    not-received r = true≢false (ap isDeparture (r .1))

@@ -1,7 +1,7 @@
 -- The line and its two ends. Every law is stated of `insertAt x v l`, so that it serves both stations, a departure forwards and a receipt backwards.
 -- By cases on the station, A at the front of the list and B at its back.
 -- Assumes nothing.
-use Prim.Native.Nat.{_+_, _-_, _<_, suc, zero, ℕ}
+use Prim.Native.Nat.{_+_, _-_, _<_, _≤_, suc, zero, ℕ}
 use Rattle.working.proofs.Every.{Every, all-every, every-add, every-before}
 use Rattle.working.proofs.Tests.{both, clash}
 use Rattle.working.specs.Sections.{insertAt, nearestAt, numberAt, otherAt, removeAt, unused}
@@ -12,7 +12,7 @@ use Rattle.working.specs.declared.Station.{Station}
 use Rattle.working.specs.declared.Vehicle.{Vehicle}
 use borrow.Author.Tests.{eq-eqb, eqb-false, eqb-true, ne-eqb}
 use lib.Dec.{eqb}
-use lib.ListN.{length, length-append}
+use lib.ListN.{length, length-append, length-drop, length-take}
 use lib.Seq.{getD-append-seam, take-append-seam}
 use mathlib.Core.Bool.{Bool, _&&_, cond, false, not, true}
 use mathlib.Core.List.{List, [], _++_, _∷_}
@@ -69,21 +69,39 @@ pub remove-insert : (x : Station) (v : Vehicle) (l : List Vehicle) → removeAt 
 remove-insert A v l = refl
 remove-insert B v l = rw (last-place l v) (take-append-seam l (v ∷ []))
 
--- a line with a vehicle is an insertion at either end
-split-last : (v : Vehicle) (l : List Vehicle) → (w : Vehicle) × (t : List Vehicle) × (v ∷ l ≡ t ++ w ∷ [])
-split-last v [] = (v, [], refl)
-split-last v (u ∷ l) = let r = split-last u l in (r .0, v ∷ r .1, ap (λ (t : List Vehicle). v ∷ t) (r .2))
+-- a line with a vehicle, taken apart at a station's end
+pub record Nearest (x : Station) (l : List Vehicle) : Type 0 where
+  pub vehicle : Vehicle
+  pub others : List Vehicle
+  pub line : l ≡ insertAt x vehicle others
+  pub near : nearestAt x l ≡ vehicle
+  pub rest : removeAt x l ≡ others
+  pub size : length l ≡ suc (length others)
 
-pub split-end : (x : Station) (l : List Vehicle) → 0 < length l → (w : Vehicle) × (t : List Vehicle) × (l ≡ insertAt x w t)
-split-end x [] h = absurd (omega arith)
-split-end A (v ∷ l) h = (v, l, refl)
-split-end B (v ∷ l) h = split-last v l
+pub nearest : (x : Station) (l : List Vehicle) → 0 < length l → Nearest x l
+nearest x l h =
+    let (v, t, is) = split x l h in
+    record {
+      vehicle = v;
+      others = t;
+      line = is;
+      near = ap (nearestAt x) is ∙ nearest-insert x v t;
+      rest = ap (removeAt x) is ∙ remove-insert x v t;
+      size = ap length is ∙ insert-length x v t;
+    }
+  where
+    last : (v : Vehicle) (l : List Vehicle) → (w : Vehicle) × (t : List Vehicle) × (v ∷ l ≡ t ++ w ∷ [])
+    last v [] = (v, [], refl)
+    last v (u ∷ l) = let (w, t, is) = last u l in (w, v ∷ t, ap (λ (k : List Vehicle). v ∷ k) is)
 
-pub length-remove : (x : Station) (l : List Vehicle) → 0 < length l → suc (length (removeAt x l)) ≡ length l
-length-remove x l h =
-    let q = split-end x l h in
-    let rest : removeAt x l ≡ q .1 = ap (removeAt x) (q .2) ∙ remove-insert x (q .0) (q .1) in
-    omega (arith, ap length rest, ap length (q .2), insert-length x (q .0) (q .1))
+    split : (x : Station) (l : List Vehicle) → 0 < length l → (w : Vehicle) × (t : List Vehicle) × (l ≡ insertAt x w t)
+    split x [] h = absurd (omega arith)
+    split A (v ∷ l) h = (v, l, refl)
+    split B (v ∷ l) h = last v l
+
+pub remove-short : (x : Station) (l : List Vehicle) → length (removeAt x l) ≤ length l
+remove-short A l = omega (arith, length-drop 1 l)
+remove-short B l = omega (arith, length-take (length l - 1) l)
 
 -- ---- predicates on the line
 

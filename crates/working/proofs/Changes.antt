@@ -13,19 +13,16 @@ use Rattle.working.proofs.Receipts.{Receipt, arrives-far, arrives-own, 
 use Rattle.working.proofs.Tests.{NoneHolds, none-holds}
 use Rattle.working.specs.Acts as acts
 use Rattle.working.specs.Acts.{Act}
-use Rattle.working.specs.Departures.{departureBy}
-use Rattle.working.specs.Effects.{Arrive, Depart, Departing, Plan, arriveDesk, otherDesk, ownDesk}
+use Rattle.working.specs.Effects.{Depart, Departing, Plan, arriveDesk, otherDesk, ownDesk}
 use Rattle.working.specs.Events.{At, Bad, Begin, Decoded, Event, Meet, Resume, Says, decode}
 use Rattle.working.specs.Reasons.{beginTests, findOf, isNamed, mayEnter, mayMeet, meetTests, resumeTests}
 use Rattle.working.specs.Refusals.{Test, firstOf}
-use Rattle.working.specs.Sections.{countRefusal, deskOf, emptied, insertAt, lineOf, nearestAt, otherAt, padTo, removeAt, withDesk, withLine}
+use Rattle.working.specs.Sections.{deskOf, emptied, insertAt, lineOf, nearestAt, otherAt, padTo, withDesk, withLine}
 use Rattle.working.specs.Steps.{accepted, doneBy, entered, metAt, onDecoded, planOf, refused, settled, stepOf, turnAt}
 use Rattle.working.specs.WellMade.{wellMade}
-use Rattle.working.specs.declared.Answer.the-variants.{Accepted}
 use Rattle.working.specs.declared.Desk.{Desk}
 use Rattle.working.specs.declared.Refusal.{Refusal}
 use Rattle.working.specs.declared.Section.{Section}
-use Rattle.working.specs.declared.Speed.the-variants.{NoSpeed}
 use Rattle.working.specs.declared.Station.the-variants.{A, B}
 use Rattle.working.specs.declared.Station.{Station}
 use Rattle.working.specs.declared.Stepped.{Stepped}
@@ -35,7 +32,6 @@ use Rattle.working.specs.declared.Verdict.{Verdict}
 use lib.ListN.{length}
 use mathlib.Core.Bool.{Bool, false, false≢true, true}
 use mathlib.Core.List.{List, [], _∷_}
-use mathlib.Core.Option.{Option}
 use mathlib.Core.Path.{_≡_, refl}
 use native.Mathlib.Omega.{arith}
 
@@ -47,58 +43,98 @@ pub record Sound (s : Section) : Type 0 where
 pub well-at : (s : Section) (x : Station) → Sound s → Well x (deskOf s x) (deskOf s (otherAt x)) (lineOf s)
 well-at s x g = well-of s x (g .places) (g .well)
 
+-- ---- what each act leaves, seen from its station
+
+-- the vehicle that a RECEIVE names is there
+pub named-there : (y : Station) (n : ℕ) (x : Station) (l : List Vehicle) → isNamed y n (nearestAt x l) ≡ true → 0 < length l
+named-there y n x (v ∷ l) h = omega arith
+named-there A n A [] h = absurd (false≢true h)
+named-there B n A [] h = absurd (false≢true h)
+named-there A n B [] h = absurd (false≢true h)
+named-there B n B [] h = absurd (false≢true h)
+
+well-arrive : (s : Section) (x : Station) (time : ℕ) (k : Nearest x (lineOf s)) → Sound s → mayEnter x (k .vehicle) ≡ true
+    → Well x (arriveDesk x (deskOf s x) time (k .vehicle)) (deskOf s (otherAt x)) (k .others)
+well-arrive s x time k g may = by (receipt x d time v may)
+  where
+    d : Desk
+    d = deskOf s x
+
+    o : Desk
+    o = deskOf s (otherAt x)
+
+    v : Vehicle
+    v = k .vehicle
+
+    w : Well x d o (insertAt x v (k .others))
+    w = rw (k .line) at (well-at s x g)
+
+    by : {e : Desk} → Receipt x d time v e → Well x e o (k .others)
+    by (own is opener) = well-own x d o (ownDesk d time (v .movement)) v (k .others) w is (arrives-own d time (v .movement) opener (w .own .bounds))
+    by (far is) =
+        let moves = every-end Shape x v (k .others) (w .shape) .1 .moves in
+        well-far x d o (otherDesk d time (v .class) (v .movement)) v (k .others) w is (arrives-far d time (v .class) (v .movement) moves (w .own .bounds))
+
+well-meet : (s : Section) (x : Station) (i : ℕ) → Sound s → mayMeet (lineOf s) i ≡ true → Well A (s .a) (s .b) (metAt x i (lineOf s))
+well-meet s x i g may =
+    let m = meets (lineOf s) i may in
+    let first = well-turn x A (s .a) (s .b) i (lineOf s) (well-at s A g) (m .first) in
+    well-turn x A (s .a) (s .b) (suc i) (turnAt x i (lineOf s)) first (rw (turn-left-on x i (suc i) (lineOf s)) (m .second))
+
 -- ---- the cases
 
 pub data Change (s : Section) : Decoded → Stepped → Type 0 where
   refusal : (e : Decoded) (why : Refusal) → Change s e (refused s why)
-  emptying : (e : Decoded) (force : Bool) → departureBy e (Accepted 0 0 NoSpeed) ≡ Option.none → Change s e (accepted (emptied force (s .refused)))
+  emptying : (e : Decoded) (force : Bool) → Change s e (accepted (emptied force (s .refused)))
   departure : (x : Station) (time : ℕ) (act : Act) {p : Departing} → s .force ≡ true → Departs act x (deskOf s x) p
-      → Change s (Says (At x time act)) (doneBy s x (Depart p))
-  arrival : (x : Station) (time : ℕ) (y : Station) (n : ℕ) → s .force ≡ true
-      → isNamed y n (nearestAt x (lineOf s)) ≡ true → mayEnter x (nearestAt x (lineOf s)) ≡ true
-      → Change s (Says (At x time (acts.Receive y n))) (doneBy s x (Arrive (arriveDesk x (deskOf s x) time (nearestAt x (lineOf s)))))
-  meeting : (x y : Station) (n i : ℕ) → s .force ≡ true → mayMeet (lineOf s) i ≡ true
+      → Well x (p .desk) (deskOf s (otherAt x)) (insertAt x (p .vehicle) (lineOf s)) → Change s (Says (At x time act)) (doneBy s x (Depart p))
+  arrival : (x : Station) (time : ℕ) (y : Station) (n : ℕ) (k : Nearest x (lineOf s)) → s .force ≡ true → mayEnter x (k .vehicle) ≡ true
+      → Well x (arriveDesk x (deskOf s x) time (k .vehicle)) (deskOf s (otherAt x)) (k .others)
+      → Change s (Says (At x time (acts.Receive y n))) (accepted (withDesk (withLine s (k .others)) x (arriveDesk x (deskOf s x) time (k .vehicle))))
+  meeting : (x y : Station) (n i : ℕ) → s .force ≡ true → Well A (s .a) (s .b) (metAt x i (lineOf s))
       → Change s (Says (Meet x y n)) (accepted (withLine s (metAt x i (lineOf s))))
 
 settled-elim : (s : Section) (P : Stepped → Type 0) (tests : List Test) (t : Section)
     → ((why : Refusal) → P (refused s why)) → (NoneHolds tests → P (accepted t)) → P (settled s (firstOf tests) t)
-settled-elim s P tests t refuse ok = go (firstOf tests) refl
+settled-elim s P tests t refuse ok = by (firstOf tests) refl
   where
-    go : (v : Verdict) → firstOf tests ≡ v → P (settled s v t)
-    go (Refused why) e = refuse why
-    go Allowed e = ok (none-holds tests e)
+    by : (v : Verdict) → firstOf tests ≡ v → P (settled s v t)
+    by (Refused why) e = refuse why
+    by Allowed e = ok (none-holds tests e)
 
-fated : (s : Section) (x : Station) (time : ℕ) (act : Act) (p : Plan) → Fate act x (s .force) (deskOf s x) time (nearestAt x (lineOf s)) p
+fated : (s : Section) (x : Station) (time : ℕ) (act : Act) (p : Plan) → Sound s → Fate act x (s .force) (deskOf s x) time (nearestAt x (lineOf s)) p
     → Change s (Says (At x time act)) (doneBy s x p)
-fated s x time act p (refuses why) = refusal (Says (At x time act)) why
-fated s x time act p (departs f q) = departure x time act f q
-fated s x time act p (arrives y n e f named may) = rw e (arrival x time y n f named may)
+fated s x time act p g (refuses why) = refusal (Says (At x time act)) why
+fated s x time act p g (departs {p = q} f leaves) =
+    departure x time act f leaves (well-insert act x (deskOf s x) (deskOf s (otherAt x)) q (lineOf s) (well-at s x g) leaves)
+fated s x time act p g (arrives y n is f named may) =
+    let k = nearest x (lineOf s) (named-there y n x (lineOf s) named) in
+    let enters : mayEnter x (k .vehicle) ≡ true = rw (k .near) at may in
+    rw (is, k .near, k .rest) (arrival x time y n k f enters (well-arrive s x time k g enters))
 
 changed : (s : Section) (e : Event) → Sound s → Ranged e → Change s (Says e) (entered s e)
 unfolding entered
-changed s Begin g r =
-    settled-elim s (Change s (Says Begin)) (beginTests (s .force)) (emptied true (s .refused)) (refusal (Says Begin)) (λ n. emptying (Says Begin) true refl)
+changed s Begin g r = settled-elim s (Change s (Says Begin)) (beginTests (s .force)) _ (refusal (Says Begin)) (λ n. emptying (Says Begin) true)
 changed s (At x time act) g r =
-    fated s x time act (planOf act x (s .force) (deskOf s x) time (nearestAt x (lineOf s)))
+    fated s x time act (planOf act x (s .force) (deskOf s x) time (nearestAt x (lineOf s))) g
     (fate act x (s .force) (deskOf s x) time (nearestAt x (lineOf s)) r (well-at s x g .own .bounds))
 changed s (Meet x y k) g r =
     let i = findOf y k (lineOf s) in
-    settled-elim s (Change s (Says (Meet x y k))) (meetTests (s .force) (lineOf s) i) (withLine s (metAt x i (lineOf s))) (refusal (Says (Meet x y k)))
-    (λ n. let p = meet-passes (s .force) (lineOf s) i n in meeting x y k i (p .begun) (p .may))
+    settled-elim s (Change s (Says (Meet x y k))) (meetTests (s .force) (lineOf s) i) _ (refusal (Says (Meet x y k)))
+    (λ n. let p = meet-passes (s .force) (lineOf s) i n in meeting x y k i (p .begun) (well-meet s x i g (p .may)))
 changed s Resume g r =
-    settled-elim s (Change s (Says Resume)) (resumeTests (s .force) (s .len)) (emptied false (s .refused)) (refusal (Says Resume))
-    (λ n. emptying (Says Resume) false refl)
+    settled-elim s (Change s (Says Resume)) (resumeTests (s .force) (s .len)) _ (refusal (Says Resume)) (λ n. emptying (Says Resume) false)
 
 pub step-is : (s : Section) (bytes : List ℕ) → wellMade s ≡ true → stepOf s bytes ≡ onDecoded s (decode bytes)
 unfolding stepOf
 step-is s bytes h = rw h
 
 pub change : (s : Section) (bytes : List ℕ) → Sound s → Change s (decode bytes) (stepOf s bytes)
-change s bytes g = rw (step-is s bytes (g .well)) (go (decode bytes) refl)
+change s bytes g = rw (step-is s bytes (g .well)) (by (decode bytes) refl)
   where
-    go : (e : Decoded) → decode bytes ≡ e → Change s e (onDecoded s e)
-    go (Bad why) h = refusal (Bad why) why
-    go (Says e) h = changed s e g (ranged-of bytes e h)
+    by : (e : Decoded) → decode bytes ≡ e → Change s e (onDecoded s e)
+    by (Bad why) h = refusal (Bad why) why
+    by (Says e) h = changed s e g (ranged-of bytes e h)
 
 -- ---- each case leaves the section well made
 
@@ -110,74 +146,18 @@ sound-with s x e l f w = record { places = places x; well = made-of s x e l f w 
     places A = length-padTo 24 l
     places B = length-padTo 24 l
 
-pub well-depart : (s : Section) (act : Act) (x : Station) (p : Departing) → Sound s → Departs act x (deskOf s x) p
-    → Well x (p .desk) (deskOf s (otherAt x)) (insertAt x (p .vehicle) (lineOf s))
-well-depart s act x p g q = well-insert act x (deskOf s x) (deskOf s (otherAt x)) p (lineOf s) (well-at s x g) q
-
--- the vehicle that a RECEIVE names is there
-pub named-there : (y : Station) (n : ℕ) (x : Station) (l : List Vehicle) → isNamed y n (nearestAt x l) ≡ true → 0 < length l
-named-there y n x (v ∷ l) h = omega arith
-named-there A n A [] h = absurd (false≢true h)
-named-there B n A [] h = absurd (false≢true h)
-named-there A n B [] h = absurd (false≢true h)
-named-there B n B [] h = absurd (false≢true h)
-
--- a receipt of v, which stands at x's end before the vehicles l
-pub well-arrive : (s : Section) (x : Station) (time : ℕ) (v : Vehicle) (l : List Vehicle) → Sound s → lineOf s ≡ insertAt x v l → mayEnter x v ≡ true
-    → Well x (arriveDesk x (deskOf s x) time v) (deskOf s (otherAt x)) l
-well-arrive s x time v l g e may = by (receipt x d time v may)
-  where
-    d : Desk
-    d = deskOf s x
-
-    o : Desk
-    o = deskOf s (otherAt x)
-
-    w : Well x d o (insertAt x v l)
-    w = rw e at (well-at s x g)
-
-    by : {e : Desk} → Receipt x d time v e → Well x e o l
-    by (own is opener) = well-own x d o (ownDesk d time (v .movement)) v l w is (arrives-own d time (v .movement) opener (w .own .bounds))
-    by (far is) =
-        let moves = every-end Shape x v l (w .shape) .1 .moves in
-        well-far x d o (otherDesk d time (v .class) (v .movement)) v l w is (arrives-far d time (v .class) (v .movement) moves (w .own .bounds))
-
-pub nearest-of : (y : Station) (n : ℕ) (x : Station) (l : List Vehicle) → isNamed y n (nearestAt x l) ≡ true → Nearest x l
-nearest-of y n x l named = nearest x l (named-there y n x l named)
-
-sound-arrive : (s : Section) (x : Station) (time : ℕ) (y : Station) (n : ℕ) → Sound s → s .force ≡ true
-    → isNamed y n (nearestAt x (lineOf s)) ≡ true → mayEnter x (nearestAt x (lineOf s)) ≡ true
-    → Sound (withDesk (withLine s (removeAt x (lineOf s))) x (arriveDesk x (deskOf s x) time (nearestAt x (lineOf s))))
-sound-arrive s x time y n g f named may =
-    let q = nearest-of y n x (lineOf s) named in
-    rw (q .near, q .rest)
-    (sound-with s x (arriveDesk x (deskOf s x) time (q .vehicle)) (q .others) f (well-arrive s x time (q .vehicle) (q .others) g (q .line) (rw (q .near) at may)))
-
-sound-meet : (s : Section) (x : Station) (i : ℕ) → Sound s → s .force ≡ true → mayMeet (lineOf s) i ≡ true → Sound (withLine s (metAt x i (lineOf s)))
-sound-meet s x i g f h =
-    let m = meets (lineOf s) i h in
-    let first = well-turn x A (s .a) (s .b) i (lineOf s) (well-at s A g) (m .first) in
-    let second = well-turn x A (s .a) (s .b) (suc i) (turnAt x i (lineOf s)) first (rw (turn-left-on x i (suc i) (lineOf s)) (m .second)) in
-    sound-with s A (s .a) (metAt x i (lineOf s)) f second
-
 pub sound-emptied : (force : Bool) (n : ℕ) → Sound (emptied force n)
 unfolding wellMade padTo
-sound-emptied force n = record { places = refl; well = well force }
-  where
-    well : (force : Bool) → wellMade (emptied force n) ≡ true
-    well true = refl
-    well false = refl
-
-sound-refused : (s : Section) → Sound s → Sound (countRefusal s)
-unfolding wellMade
-sound-refused s g = record { places = g .places; well = g .well }
+sound-emptied true n = record { places = refl; well = refl }
+sound-emptied false n = record { places = refl; well = refl }
 
 sound-change : (s : Section) (e : Decoded) (r : Stepped) → Sound s → Change s e r → Sound (r .section)
-sound-change s e r g (refusal k why) = sound-refused s g
-sound-change s e r g (emptying k force n) = sound-emptied force (s .refused)
-sound-change s e r g (departure x time act {p} f q) = sound-with s x (p .desk) (insertAt x (p .vehicle) (lineOf s)) f (well-depart s act x p g q)
-sound-change s e r g (arrival x time y n f named may) = sound-arrive s x time y n g f named may
-sound-change s e r g (meeting x y n i f h) = sound-meet s x i g f h
+unfolding wellMade
+sound-change s e r g (refusal k why) = record { places = g .places; well = g .well }
+sound-change s e r g (emptying k force) = sound-emptied force (s .refused)
+sound-change s e r g (departure x time act {p} f leaves w) = sound-with s x (p .desk) (insertAt x (p .vehicle) (lineOf s)) f w
+sound-change s e r g (arrival x time y n k f may w) = sound-with s x (arriveDesk x (deskOf s x) time (k .vehicle)) (k .others) f w
+sound-change s e r g (meeting x y n i f w) = sound-with s A (s .a) (metAt x i (lineOf s)) f w
 
 -- ---- the theorem: a step, accepted or refused, leaves a well-made section well made
 

@@ -31,9 +31,9 @@ same-count s B d l = refl
 
 counted : (s : Section) (e : Decoded) (r : Stepped) → Change s e r → r .section .refused ≡ cond (isAccepted (r .answer)) (s .refused) (countRefusal s .refused)
 counted s e r (refusal k why) = refl
-counted s e r (emptying k force n) = refl
-counted s e r (departure x time act f p) = same-count s x _ _
-counted s e r (arrival x time y n f named may) = same-count s x _ _
+counted s e r (emptying k force) = refl
+counted s e r (departure x time act f p w) = same-count s x _ _
+counted s e r (arrival x time y n k f may w) = same-count s x _ _
 counted s e r (meeting x y n i f h) = refl
 
 -- 1 for a refusal

@@ -1,20 +1,19 @@
 -- Each vehicle present has its departure in the list of steps, of the kind that its record says; an OPEN or THROUGH left on T/B 602 at 15 km/h or less.
 -- A step that is no accepted departure adds none; one that is takes a form number that no vehicle present has.
 -- Assumes nothing.
-use Prim.Native.Nat.{_+_, _≤_, suc, ℕ}
-use Rattle.working.proofs.Changes.{Change, Sound, arrival, departure, emptying, meeting, nearest-of, refusal, well-arrive, well-at, well-depart}
+use Prim.Native.Nat.{_+_, suc, ℕ}
+use Rattle.working.proofs.Changes.{Change, Sound, arrival, departure, emptying, meeting, refusal, well-at}
 use Rattle.working.proofs.Clauses.{Numbered}
 use Rattle.working.proofs.Every.{Every, every-map}
 use Rattle.working.proofs.Invariant.{granted, trainOne, trains}
 use Rattle.working.proofs.Line.{eqb-sym, every-end, every-insert, every-turn, number-same}
 use Rattle.working.proofs.Made.{line-after, line-with}
-use Rattle.working.proofs.Meeting.{turn-length}
 use Rattle.working.proofs.Plans.{Departs}
 use Rattle.working.proofs.Sides.{moves-weight, movesOf}
 use Rattle.working.specs.Acts.{Act}
 use Rattle.working.specs.Demand3.{grantedIn, ofStation}
 use Rattle.working.specs.Departures.{Departure, Kind, departureBy, departureOf, departureWith, ifOf, kindIn, kindOf, laterOr, leftOnTrain, leftSlowly}
-use Rattle.working.specs.Effects.{Departing}
+use Rattle.working.specs.Effects.{Departing, arriveDesk}
 use Rattle.working.specs.Events.{At, Bad, Begin, Decoded, Meet, Resume, Says, decode}
 use Rattle.working.specs.Runs.{Done}
 use Rattle.working.specs.Sections.{deskOf, insertAt, lineOf, numberAt}
@@ -23,13 +22,11 @@ use Rattle.working.specs.WellMade.{isOpener, oneIf, sumOver}
 use Rattle.working.specs.declared.Answer.the-variants.{Accepted, Refused}
 use Rattle.working.specs.declared.Refusal.{Refusal}
 use Rattle.working.specs.declared.Section.{Section}
-use Rattle.working.specs.declared.Station.the-variants.{A}
 use Rattle.working.specs.declared.Station.{Station}
 use Rattle.working.specs.declared.Stepped.{Stepped}
 use Rattle.working.specs.declared.Vehicle.{Vehicle}
 use borrow.Author.Tests.{eq-eqb, ne-eqb}
 use lib.Dec.{eqb}
-use lib.ListN.{length}
 use mathlib.Core.Bool.{Bool, _&&_, cond, false, true}
 use mathlib.Core.List.{List, [], _++_, _∷_}
 use mathlib.Core.Option.{Option, none, some}
@@ -128,20 +125,15 @@ told-depart h d s g told x time act p leaves q a =
 pub told-change : (h : List Done) (d : Done) (s : Section) (e : Decoded) (r : Stepped) → Sound s → Change s e r → decode (d .bytes) ≡ e → d .answer ≡ r .answer
     → Every (Told h) (lineOf s) → Every (Told (h ++ d ∷ [])) (lineOf (r .section))
 told-change h d s e r g (refusal k why) q a t = none-more h d (ap (departureBy (decode (d .bytes))) a ∙ refused-none (decode (d .bytes)) why) (lineOf s) t
-told-change h d s e r g (emptying k force n) q a t = tt
-told-change h d s e r g (departure x time act {p} f leaves) q a t =
-    rw (line-after s x (p .desk) (insertAt x (p .vehicle) (lineOf s)) (well-depart s act x p g leaves .fits)) (told-depart h d s g t x time act p leaves q a)
-told-change h d s e r g (arrival x time y n f named may) q a t =
-    let by : departureBy (decode (d .bytes)) (d .answer) ≡ none = rw q in
-    let k = nearest-of y n x (lineOf s) named in
-    let fits = well-arrive s x time (k .vehicle) (k .others) g (k .line) (rw (k .near) at may) .fits in
-    rw (k .rest, line-after s x _ (k .others) fits)
-    (none-more h d by (k .others) (every-end (Told h) x (k .vehicle) (k .others) (rw (k .line) at t) .0))
-told-change h d s e r g (meeting x y n i f m) q a t =
-    let by : departureBy (decode (d .bytes)) (d .answer) ≡ none = rw q in
-    let fits : length (metAt x i (lineOf s)) ≤ 24 = omega (arith, turn-length x (suc i) (turnAt x i (lineOf s)), turn-length x i (lineOf s), well-at s A g .fits) in
-    rw (line-with 24 (metAt x i (lineOf s)) fits)
-    (none-more h d by (metAt x i (lineOf s))
+told-change h d s e r g (emptying k force) q a t = tt
+told-change h d s e r g (departure x time act {p} f leaves w) q a t =
+    rw (line-after s x (p .desk) (insertAt x (p .vehicle) (lineOf s)) (w .fits)) (told-depart h d s g t x time act p leaves q a)
+told-change h d s e r g (arrival x time y n k f may w) q a t =
+    rw (line-after s x (arriveDesk x (deskOf s x) time (k .vehicle)) (k .others) (w .fits))
+    (none-more h d (rw q) (k .others) (every-end (Told h) x (k .vehicle) (k .others) (rw (k .line) at t) .0))
+told-change h d s e r g (meeting x y n i f w) q a t =
+    rw (line-with 24 (metAt x i (lineOf s)) (w .fits))
+    (none-more h d (rw q) (metAt x i (lineOf s))
     (every-turn (Told h) x (told-turned h x) (suc i) (turnAt x i (lineOf s)) (every-turn (Told h) x (told-turned h x) i (lineOf s) t)))
 
 -- ---- what the departures say of the line

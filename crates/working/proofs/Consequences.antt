@@ -4,6 +4,7 @@
 use Prim.Native.Nat.{_%_, _+_, _<_, ℕ}
 use Rattle.working.proofs.Computing.{step-computes}
 use Rattle.working.proofs.Demand3.{demand3}
+use Rattle.working.proofs.Line.{other-differs}
 use Rattle.working.proofs.Lists.{Todo, after, done, runs}
 use Rattle.working.proofs.Literals.{begin, figures, opens, plain, receive, resume, returns, returnsAsking, sameSection, through, train, trainGranting, vehicle, working}
 use Rattle.working.proofs.Tests.{both}
@@ -265,12 +266,6 @@ returned bytes answer = record { form = byValue; bytes = bytes; answer = answer 
 abbrev inMemory : List ℕ → Answer → Done
 inMemory bytes answer = record { form = inPlace; bytes = bytes; answer = answer }
 
-A-not-B : A ≡ B → ⊥
-A-not-B e = let z : _≡_ {A = ℕ} 0 1 = cc in omega arith
-
-B-not-A : B ≡ A → ⊥
-B-not-A e = let z : _≡_ {A = ℕ} 0 1 = cc in omega arith
-
 -- B and A open in view 3, then B and A take their own openers back
 abbrev begins : List Done
 begins = returned begin plain ∷ []
@@ -297,8 +292,7 @@ receipts-exchanged =
     demand3 (runs fresh takenBack) .swap (begins ++ openB ∷ openA ∷ []) backB backA [] B A (acts.Receive B 1) (acts.Receive A 1) refl
     (record { time = 2; entry = refl; accepted = refl })
     (record { time = 1; entry = refl; accepted = refl })
-    B-not-A
-    (λ r. false≢true (r .0))
+    (other-differs B) (λ r. false≢true (r .0))
 
 -- two departures, with the receipts of both behind them
 departures-exchanged : Run fresh (begins ++ openA ∷ openB ∷ backB ∷ backA ∷ []) (after fresh takenBack)
@@ -307,8 +301,7 @@ departures-exchanged =
     demand3 (runs fresh takenBack) .swap begins openB openA (backB ∷ backA ∷ []) B A (acts.Open Impaired 2 6) (acts.Open Impaired 4 5) refl
     (record { time = 0; entry = refl; accepted = refl })
     (record { time = 0; entry = refl; accepted = refl })
-    B-not-A
-    (λ r. true≢false (ap isDeparture (r .1)))
+    (other-differs B) (λ r. true≢false (ap isDeparture (r .1)))
 
 -- behind no bytes, which are refused, A opens, holds two line clears and sends its first train. A's second train and B's receipt of the first are neighbours, and
 -- behind them come B's receipt of the second, bytes that are no entry, and a THROUGH of B.
@@ -346,13 +339,11 @@ train-and-receipt-exchanged = (
   demand3 (runs fresh sentThenTaken) .swap oneSent secondSent firstTaken behind A B (acts.Train Clear 0 0) (acts.Receive A 2) refl
       (record { time = 121; entry = refl; accepted = refl })
       (record { time = 115; entry = refl; accepted = refl })
-      A-not-B
-      (λ r. let e = r .1 in let z : _≡_ {A = ℕ} 2 3 = cc in omega arith),
+      (other-differs A) (λ r. let e = r .1 in let z : _≡_ {A = ℕ} 2 3 = cc in omega arith),
   demand3 (runs fresh takenThenSent) .swap oneSent firstTaken secondSent behind B A (acts.Receive A 2) (acts.Train Clear 0 0) refl
       (record { time = 115; entry = refl; accepted = refl })
       (record { time = 121; entry = refl; accepted = refl })
-      B-not-A
-      (λ r. false≢true (r .0)),
+      (other-differs B) (λ r. false≢true (r .0)),
 )
 
 -- the sections that these lists end in, in figures

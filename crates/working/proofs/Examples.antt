@@ -1,12 +1,12 @@
 -- Demand 3 is not empty: lists, by computation, with two opposed vehicles, with a line clear on the way, and with two neighbours that change places.
 -- Assumes nothing.
-use Prim.Native.Nat.{ℕ}
 use Rattle.working.proofs.Computing.{reading-computes, step-computes}
 use Rattle.working.proofs.Demand3.{demand3}
+use Rattle.working.proofs.Line.{other-differs}
 use Rattle.working.proofs.Lists.{Todo, after, done, runs}
 use Rattle.working.proofs.Literals.{begin, opens, receive, returns}
 use Rattle.working.specs.Acts as acts
-use Rattle.working.specs.Demand3.{AcceptedAt, ReceivesIt, isDeparture, onTheWayTo, vehicleAt}
+use Rattle.working.specs.Demand3.{AcceptedAt, isDeparture, onTheWayTo, vehicleAt}
 use Rattle.working.specs.Runs.{Done, Run, byValue, inPlace}
 use Rattle.working.specs.Sections.{deskOf, fresh, numberAt}
 use Rattle.working.specs.declared.Answer.the-variants.{Accepted}
@@ -16,7 +16,6 @@ use Rattle.working.specs.declared.View.the-variants.{Clear, Impaired}
 use mathlib.Core.Bool.{true, true≢false}
 use mathlib.Core.List.{List, [], _∷_}
 use mathlib.Core.Path.{_≡_, ap, refl}
-use native.Mathlib.Omega.{arith}
 
 -- BEGIN, an OPEN from each station, A's altered in memory and B's returned
 abbrev two : List Todo
@@ -65,10 +64,6 @@ second-accepted = record { time = 9; entry = refl; accepted = refl }
 
 -- the list with the two in the other order ends in the same section
 pub swapped-list : Run fresh (begins ∷ second ∷ first ∷ []) (after fresh two)
-swapped-list = demand3 (runs fresh two) .swap (begins ∷ []) first second [] A B (acts.Open Clear 1 2) (acts.Open Impaired 1 1) is-list first-accepted second-accepted apart not-received
-  where
-    apart : A ≡ B → ⊥
-    apart e = let z : _≡_ {A = ℕ} 0 1 = cc in omega arith
-
-    not-received : ReceivesIt (acts.Open Clear 1 2) A (first .answer) (acts.Open Impaired 1 1) → ⊥
-    not-received r = true≢false (ap isDeparture (r .1))
+swapped-list =
+    demand3 (runs fresh two) .swap (begins ∷ []) first second [] A B (acts.Open Clear 1 2) (acts.Open Impaired 1 1) is-list first-accepted second-accepted
+    (other-differs A) (λ r. true≢false (ap isDeparture (r .1)))

@@ -33,6 +33,10 @@ pub other-number : (x : Station) → eqb (numberAt (otherAt x)) (numberAt x) ≡
 other-number A = refl
 other-number B = refl
 
+pub other-differs : (x : Station) → x ≡ otherAt x → ⊥
+other-differs A e = omega (arith, ap numberAt e)
+other-differs B e = omega (arith, ap numberAt e)
+
 -- v is station x's, and is not
 abbrev pub From : Station → Vehicle → Type 0
 From x v = isFrom (numberAt x) v ≡ true

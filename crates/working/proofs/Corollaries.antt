@@ -123,7 +123,7 @@ never-five {s = s} run before d after is = let q = split-run before (rw is at ru
     by : (t : Section) → Run fresh before t → Run t (d ∷ after) s → Fine (d .answer)
     by t r (next {t = u} h more) =
         let did = step-did d t u h in
-        rw (did .0, step-is t (d .bytes) (kept r .good .sound .well)) (fine-decoded t (decode (d .bytes)) (fine-decode (d .bytes)))
+        rw (did .answered, step-is t (d .bytes) (kept r .good .sound .well)) (fine-decoded t (decode (d .bytes)) (fine-decode (d .bytes)))
 
 -- ---- a TRAIN that comes is owed
 

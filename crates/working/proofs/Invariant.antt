@@ -256,10 +256,10 @@ kept-opener d o t out m mine theirs h p op is-out =
     let ahead = every-map Modest (Ahead m) (λ n modest. record { return = k .return; modest = modest; fast = λ fast. absurd (clash op fast) }) mine all-modest in
     record {
       own = quiet (p .guest) (p .holds) (omega (arith, h .own .sum, k .grants))
-          (is-out ∙ sym (ap (λ (b : Bool). b || isOpen m) no-guest))
+          (is-out ∙ sym (ap (_|| isOpen m) no-guest))
           (ahead, h .own .row) (one-more (h .own .clear));
       far = quiet (no-test (o .guest) no-guest) (omega (arith, h .own .sum, p .owes)) (omega (arith, h .far .sum, k .train))
-          (h .far .outs ∙ ap (λ (b : Bool). ltb 0 (d .guest) || b) (far-away m theirs mine (k .return)))
+          (h .far .outs ∙ ap (ltb 0 (d .guest) ||_) (far-away m theirs mine (k .return)))
           (h .far .row) (openers (theirs-open (h .far .clear) none-away));
     }
   where
@@ -296,14 +296,14 @@ kept-train d o t a g mine theirs h p =
     record {
       own = record {
         sum = omega (arith, h .own .sum);
-        outs = h .own .outs ∙ ap (λ (b : Bool). ltb 0 (o .guest) || b) (none-away mine (q .trains) none-granted (ap lastReturn (q .none-far)));
+        outs = h .own .outs ∙ ap (ltb 0 (o .guest) ||_) (none-away mine (q .trains) none-granted (ap lastReturn (q .none-far)));
         guests = λ some. absurd (omega arith);
         holding = λ some. record { owes = owes ∙ zero-unless g (λ grants. omega (arith, p .last grants)); none-far = q .none-far; trains = (refl, q .trains) };
         row = (trains-ahead a g mine (q .trains) none-granted, h .own .row);
         clear = no-far (q .none-far);
       };
       far = quiet their-guest (omega (arith, h .own .sum)) (omega (arith, h .far .sum, p .holds))
-          (h .far .outs ∙ ap (λ (b : Bool). ltb 0 (d .guest) || b) (far-away (Train a g) theirs mine refl))
+          (h .far .outs ∙ ap (ltb 0 (d .guest) ||_) (far-away (Train a g) theirs mine refl))
           (h .far .row) (openers (rw (q .none-far) tt));
     }
   where
@@ -330,7 +330,7 @@ kept-own d o t sent m mine theirs h op =
           (in-now (isOpen m) refl their-guest ∙ sym (ap₂ _||_ (zero-test (o .guest) their-guest) none-away))
           (h .own .row .1) (one-less (h .own .clear));
       far = quiet their-guest their-holds (omega (arith, h .far .sum, k .train))
-          (h .far .outs ∙ ap (λ (b : Bool). ltb 0 (d .guest) || b) (sym (far-away m theirs mine (k .return))))
+          (h .far .outs ∙ ap (ltb 0 (d .guest) ||_) (sym (far-away m theirs mine (k .return))))
           (h .far .row) (openers all-open);
     }
   where
@@ -378,7 +378,7 @@ kept-guest d o t class a l h guest =
     record {
       own = record {
         sum = omega arith;
-        outs = h .own .outs ∙ ap (λ (b : Bool). ltb 0 (o .guest) || b) (last-snoc l m ∙ sym (ap lastReturn nil));
+        outs = h .own .outs ∙ ap (ltb 0 (o .guest) ||_) (last-snoc l m ∙ sym (ap lastReturn nil));
         guests = λ some. record { none = refl; none-far = nil; guest = their-guest d o m l h; holds = holds; owes = omega arith };
         holding = λ some. absurd (omega arith);
         row = tt;

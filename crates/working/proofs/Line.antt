@@ -96,7 +96,7 @@ nearest x l h =
   where
     last : (v : Vehicle) (l : List Vehicle) → (w : Vehicle) × (t : List Vehicle) × (v ∷ l ≡ t ++ w ∷ [])
     last v [] = (v, [], refl)
-    last v (u ∷ l) = let (w, t, is) = last u l in (w, v ∷ t, ap (λ (k : List Vehicle). v ∷ k) is)
+    last v (u ∷ l) = let (w, t, is) = last u l in (w, v ∷ t, ap (v ∷_) is)
 
     split : (x : Station) (l : List Vehicle) → 0 < length l → (w : Vehicle) × (t : List Vehicle) × (l ≡ insertAt x w t)
     split x [] h = absurd (omega arith)
@@ -152,7 +152,7 @@ ordered-own A v l e = rw (eq-eqb (v .sender) 1 e)
 ordered-own B v [] e = rw e
 ordered-own B v (u ∷ l) e =
     ap₂ (cond (isFrom 1 u)) (ordered-own B v l e)
-    (ap (λ (b : Bool). isFrom 2 u && b) (all-insert (isFrom 2) B v l ∙ rw (eq-eqb (v .sender) 2 e)))
+    (ap (isFrom 2 u &&_) (all-insert (isFrom 2) B v l ∙ rw (eq-eqb (v .sender) 2 e)))
 
 from-two-ordered : (l : List Vehicle) → all (isFrom 2) l ≡ true → ordered l ≡ true
 from-two-ordered [] e = refl

@@ -146,7 +146,7 @@ pub line-with : (n : ℕ) (l : List Vehicle) → length l ≤ n → take (length
 unfolding padTo
 line-with n [] h = refl
 line-with zero (x ∷ l) h = absurd (omega arith)
-line-with (suc n) (x ∷ l) h = ap (λ (t : List Vehicle). x ∷ t) (line-with n l (omega arith))
+line-with (suc n) (x ∷ l) h = ap (x ∷_) (line-with n l (omega arith))
 
 pub line-after : (s : Section) (x : Station) (e : Desk) (l : List Vehicle) → length l ≤ 24 → lineOf (withDesk (withLine s l) x e) ≡ l
 line-after s A e l h = line-with 24 l h

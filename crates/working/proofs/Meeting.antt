@@ -22,8 +22,8 @@ use native.Mathlib.Omega.{arith}
 module _ (z : Station) where
   pub turn-all : (p : Vehicle → Bool) → ((v : Vehicle) → p (turned z v) ≡ p v) → (i : ℕ) (l : List Vehicle) → all p (turnAt z i l) ≡ all p l
   turn-all p e i [] = refl
-  turn-all p e zero (v ∷ l) = ap (λ (b : Bool). b && all p l) (e v)
-  turn-all p e (suc i) (v ∷ l) = ap (λ (b : Bool). p v && b) (turn-all p e i l)
+  turn-all p e zero (v ∷ l) = ap (_&& all p l) (e v)
+  turn-all p e (suc i) (v ∷ l) = ap (p v &&_) (turn-all p e i l)
 
   pub turn-sum : (f : Vehicle → ℕ) → ((v : Vehicle) → f (turned z v) ≡ f v) → (i : ℕ) (l : List Vehicle) → sumOver f (turnAt z i l) ≡ sumOver f l
   turn-sum f e i [] = refl
@@ -39,12 +39,12 @@ module _ (z : Station) where
   pub turn-set : (i : ℕ) (l : List Vehicle) → turnAt z i l ≡ set l i (turned z (getD l i unused))
   turn-set i [] = refl
   turn-set zero (v ∷ l) = refl
-  turn-set (suc i) (v ∷ l) = ap (λ (k : List Vehicle). v ∷ k) (turn-set i l)
+  turn-set (suc i) (v ∷ l) = ap (v ∷_) (turn-set i l)
 
   turn-ordered : (i : ℕ) (l : List Vehicle) → ordered (turnAt z i l) ≡ ordered l
   turn-ordered i [] = refl
   turn-ordered zero (v ∷ l) = refl
-  turn-ordered (suc i) (v ∷ l) = ap₂ (cond (isFrom 1 v)) (turn-ordered i l) (ap (λ (b : Bool). isFrom 2 v && b) (turn-all (isFrom 2) (λ u. refl) i l))
+  turn-ordered (suc i) (v ∷ l) = ap₂ (cond (isFrom 1 v)) (turn-ordered i l) (ap (isFrom 2 v &&_) (turn-all (isFrom 2) (λ u. refl) i l))
 
   turn-differ : (i : ℕ) (l : List Vehicle) → differ (turnAt z i l) ≡ differ l
   turn-differ i [] = refl

@@ -2,18 +2,16 @@
 -- A refusal counts; BEGIN and RESUME empty the section; a departure puts a vehicle in at the station's end; a receipt takes one out there; MEET turns two.
 -- Assumes nothing.
 use Prim.Native.Nat.{_<_, suc, ℕ}
-use Rattle.working.proofs.Clauses.{Shape}
-use Rattle.working.proofs.Line.{Nearest, every-end, nearest}
-use Rattle.working.proofs.Made.{Well, length-padTo, made-of, well-far, well-insert, well-of, well-own}
+use Rattle.working.proofs.Line.{Nearest, nearest}
+use Rattle.working.proofs.Made.{Well, length-padTo, made-of, well-arrive, well-insert, well-of}
 use Rattle.working.proofs.Meeting.{turn-left-on, well-turn}
 use Rattle.working.proofs.Plans.{Departs, Fate, arrives, departs, fate, refuses}
 use Rattle.working.proofs.Ranges.{Ranged, ranged-of}
 use Rattle.working.proofs.Reasons.{meet-passes, meets}
-use Rattle.working.proofs.Receipts.{Receipt, arrives-far, arrives-own, far, own, receipt}
 use Rattle.working.proofs.Tests.{NoneHolds, none-holds}
 use Rattle.working.specs.Acts as acts
 use Rattle.working.specs.Acts.{Act}
-use Rattle.working.specs.Effects.{Depart, Departing, Plan, arriveDesk, otherDesk, ownDesk}
+use Rattle.working.specs.Effects.{Depart, Departing, Plan, arriveDesk}
 use Rattle.working.specs.Events.{At, Bad, Begin, Decoded, Event, Meet, Resume, Says, decode}
 use Rattle.working.specs.Reasons.{beginTests, findOf, isNamed, mayEnter, mayMeet, meetTests, resumeTests}
 use Rattle.working.specs.Refusals.{Test, firstOf}
@@ -53,28 +51,6 @@ named-there B n A [] h = absurd (false≢true h)
 named-there A n B [] h = absurd (false≢true h)
 named-there B n B [] h = absurd (false≢true h)
 
-well-arrive : (s : Section) (x : Station) (time : ℕ) (k : Nearest x (lineOf s)) → Sound s → mayEnter x (k .vehicle) ≡ true
-    → Well x (arriveDesk x (deskOf s x) time (k .vehicle)) (deskOf s (otherAt x)) (k .others)
-well-arrive s x time k g may = by (receipt x d time v may)
-  where
-    d : Desk
-    d = deskOf s x
-
-    o : Desk
-    o = deskOf s (otherAt x)
-
-    v : Vehicle
-    v = k .vehicle
-
-    w : Well x d o (insertAt x v (k .others))
-    w = rw (k .line) at (well-at s x g)
-
-    by : {e : Desk} → Receipt x d time v e → Well x e o (k .others)
-    by (own is opener) = well-own x d o (ownDesk d time (v .movement)) v (k .others) w is (arrives-own d time (v .movement) opener (w .own .bounds))
-    by (far is) =
-        let moves = every-end Shape x v (k .others) (w .shape) .1 .moves in
-        well-far x d o (otherDesk d time (v .class) (v .movement)) v (k .others) w is (arrives-far d time (v .class) (v .movement) moves (w .own .bounds))
-
 well-meet : (s : Section) (x : Station) (i : ℕ) → Sound s → mayMeet (lineOf s) i ≡ true → Well A (s .a) (s .b) (metAt x i (lineOf s))
 well-meet s x i g may =
     let m = meets (lineOf s) i may in
@@ -110,7 +86,7 @@ fated s x time act p g (departs {p = q} f leaves) =
 fated s x time act p g (arrives y n is f named may) =
     let k = nearest x (lineOf s) (named-there y n x (lineOf s) named) in
     let enters : mayEnter x (k .vehicle) ≡ true = rw (k .near) at may in
-    rw (is, k .near, k .rest) (arrival x time y n k f enters (well-arrive s x time k g enters))
+    rw (is, k .near, k .rest) (arrival x time y n k f enters (well-arrive x (deskOf s x) (deskOf s (otherAt x)) time (k .vehicle) (k .others) (rw (k .line) at (well-at s x g)) enters))
 
 changed : (s : Section) (e : Event) → Sound s → Ranged e → Change s (Says e) (entered s e)
 unfolding entered

@@ -5,10 +5,10 @@ use Prim.Native.Nat.{suc, ℕ}
 use Rattle.working.proofs.Changes.{Change, Sound, arrival, change, departure, emptying, meeting, refusal, sound-emptied, sound-step, well-at}
 use Rattle.working.proofs.Clauses.{Shape}
 use Rattle.working.proofs.Invariant.{Half, Halves, openers, quiet}
-use Rattle.working.proofs.Line.{From, Nearest, every-end, not-other, number-same, ordered-far}
+use Rattle.working.proofs.Line.{From, every-end, not-other, number-same, ordered-far}
 use Rattle.working.proofs.Made.{Well, line-with, other-sender}
 use Rattle.working.proofs.Plans.{Departs}
-use Rattle.working.proofs.Receipts.{Receipt, far, keeps-far, keeps-own, own, receipt}
+use Rattle.working.proofs.Receipts.{Receipt, keeps-far, keeps-own, of-other, of-own, receipt}
 use Rattle.working.proofs.Sides.{moves-far, moves-none, moves-own, moves-past, moves-skip, moves-turned, movesOf}
 use Rattle.working.specs.Acts.{Act}
 use Rattle.working.specs.Effects.{Departing, arriveDesk}
@@ -51,32 +51,14 @@ kept-depart s act x p g q =
     rw (moves-own x (p .vehicle) (lineOf s) own, moves-past x (p .vehicle) (lineOf s) (not-other x (p .vehicle) own))
     (q .keeps (deskOf s (otherAt x)) (movesOf x (lineOf s)) (movesOf (otherAt x) (lineOf s)) (kept-at x s g))
 
-kept-arrive : (s : Section) (x : Station) (time : ℕ) (k : Nearest x (lineOf s)) → Good s → mayEnter x (k .vehicle) ≡ true
-    → Between x (arriveDesk x (deskOf s x) time (k .vehicle)) (deskOf s (otherAt x)) (k .others)
-kept-arrive s x time k g may = by (receipt x d time v may)
+kept-arrive : (x : Station) (d o : Desk) (time : ℕ) (v : Vehicle) (l : List Vehicle) → Well x d o (insertAt x v l) → Between x d o (insertAt x v l)
+    → mayEnter x v ≡ true → Between x (arriveDesk x d time v) o l
+kept-arrive x d o time v l w h may = by (receipt x d time v may)
   where
-    d : Desk
-    d = deskOf s x
-
-    o : Desk
-    o = deskOf s (otherAt x)
-
-    v : Vehicle
-    v = k .vehicle
-
-    l : List Vehicle
-    l = k .others
-
-    w : Well x d o (insertAt x v l)
-    w = rw (k .line) at (well-at s x (g .sound))
-
-    h : Between x d o (insertAt x v l)
-    h = rw (k .line) at (kept-at x s g)
-
     by : {e : Desk} → Receipt x d time v e → Between x e o l
-    by (own is opener) =
+    by (of-own is opener) =
         keeps-own d o time (v .movement) (movesOf x l) (movesOf (otherAt x) l) opener (rw (moves-own x v l is, moves-past x v l (not-other x v is)) at h)
-    by (far is) =
+    by (of-other is) =
         let shape = every-end Shape x v l (w .shape) .1 in
         let none-own = moves-none x l (ordered-far x v l is (w .order) .1) in
         rw none-own
@@ -94,7 +76,10 @@ kept-change : (s : Section) (e : Decoded) (r : Stepped) → Good s → Change s 
 kept-change s e r g (refusal k why) = g .kept
 kept-change s e r g (emptying k force) = kept-emptied
 kept-change s e r g (departure x time act {p} f leaves w) = kept-with s x (p .desk) (insertAt x (p .vehicle) (lineOf s)) w (kept-depart s act x p g leaves)
-kept-change s e r g (arrival x time y n k f may w) = kept-with s x (arriveDesk x (deskOf s x) time (k .vehicle)) (k .others) w (kept-arrive s x time k g may)
+kept-change s e r g (arrival x time y n k f may w) =
+    let before = rw (k .line) at (well-at s x (g .sound)) in
+    kept-with s x (arriveDesk x (deskOf s x) time (k .vehicle)) (k .others) w
+    (kept-arrive x (deskOf s x) (deskOf s (otherAt x)) time (k .vehicle) (k .others) before (rw (k .line) at (kept-at x s g)) may)
 kept-change s e r g (meeting x y n i f w) =
     rw (line-with 24 (metAt x i (lineOf s)) (w .fits), met A, met B) (g .kept)
   where

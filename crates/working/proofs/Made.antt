@@ -6,10 +6,11 @@ use Rattle.working.proofs.Clauses.{DeskMade, Numbered, Shape, desk-of, 
 use Rattle.working.proofs.Every.{Every, every-all, every-map}
 use Rattle.working.proofs.Line.{From, NotFrom, differ-insert, eqb-sym, every-end, every-insert, insert-length, not-other, not-own, ordered-far, ordered-own, sum-insert}
 use Rattle.working.proofs.Plans.{Departs}
-use Rattle.working.proofs.Receipts.{Arrives}
+use Rattle.working.proofs.Receipts.{Arrives, Receipt, arrives-far, arrives-own, of-other, of-own, receipt}
 use Rattle.working.proofs.Tests.{and, both, clash, or-second}
 use Rattle.working.specs.Acts.{Act}
-use Rattle.working.specs.Effects.{Departing}
+use Rattle.working.specs.Effects.{Departing, arriveDesk, otherDesk, ownDesk}
+use Rattle.working.specs.Reasons.{mayEnter}
 use Rattle.working.specs.Sections.{deskOf, insertAt, lineOf, numberAt, otherAt, padTo, unused, withDesk, withLine}
 use Rattle.working.specs.WellMade.{all, countFrom, differ, isBlank, isFrom, oneIf, ordered, same, wellMade}
 use Rattle.working.specs.declared.Desk.{Desk}
@@ -125,13 +126,13 @@ module _ (x : Station) (d o e : Desk) (v : Vehicle) (l : List Vehicle) (w : Well
     };
   }
 
-  pub well-own : From x v → Arrives d e (d .sent - 1) → Well x e o l
+  well-own : From x v → Arrives d e (d .sent - 1) → Well x e o l
   well-own is a =
       let one : oneIf (isFrom (numberAt x) v) ≡ 1 = rw is in
       well-rest (sym (ordered-own x v l (eqb-true (v .sender) (numberAt x) is)) ∙ w .order) (d .sent - 1) a
       (omega (arith, count-insert (numberAt x) x v l, w .own .present)) (omega (arith, w .own .sent))
 
-  pub well-far : NotFrom x v → Arrives d e 0 → Well x e o l
+  well-far : NotFrom x v → Arrives d e 0 → Well x e o l
   well-far is a =
       let (order, all-far) = ordered-far x v l is (w .order) in
       well-rest order 0 a (omega (arith, none-own l all-far)) (omega arith)
@@ -139,6 +140,16 @@ module _ (x : Station) (d o e : Desk) (v : Vehicle) (l : List Vehicle) (w : Well
       none-own : (l : List Vehicle) → Every (From (otherAt x)) l → countFrom (numberAt x) l ≡ 0
       none-own [] h = refl
       none-own (u ∷ l) h = rw (not-own x u (h .0), none-own l (h .1))
+
+pub well-arrive : (x : Station) (d o : Desk) (time : ℕ) (v : Vehicle) (l : List Vehicle) → Well x d o (insertAt x v l) → mayEnter x v ≡ true
+    → Well x (arriveDesk x d time v) o l
+well-arrive x d o time v l w may = by (receipt x d time v may)
+  where
+    by : {e : Desk} → Receipt x d time v e → Well x e o l
+    by (of-own is opener) = well-own x d o (ownDesk d time (v .movement)) v l w is (arrives-own d time (v .movement) opener (w .own .bounds))
+    by (of-other is) =
+        let moves = every-end Shape x v l (w .shape) .1 .moves in
+        well-far x d o (otherDesk d time (v .class) (v .movement)) v l w is (arrives-far d time (v .class) (v .movement) moves (w .own .bounds))
 
 -- ---- the section
 

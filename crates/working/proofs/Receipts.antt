@@ -61,8 +61,8 @@ keeps-far d o t class (Train a g) l made h = kept-far d o t class (Train a g) l 
 
 -- a vehicle v that enters at x is x's own OPEN or THROUGH, or the other's
 pub data Receipt (x : Station) (d : Desk) (t : ℕ) (v : Vehicle) : Desk → Type 0 where
-  own : isFrom (numberAt x) v ≡ true → isOpener (v .movement) ≡ true → Receipt x d t v (ownDesk d t (v .movement))
-  far : isFrom (numberAt x) v ≡ false → Receipt x d t v (otherDesk d t (v .class) (v .movement))
+  of-own : isFrom (numberAt x) v ≡ true → isOpener (v .movement) ≡ true → Receipt x d t v (ownDesk d t (v .movement))
+  of-other : isFrom (numberAt x) v ≡ false → Receipt x d t v (otherDesk d t (v .class) (v .movement))
 
 pub receipt : (x : Station) (d : Desk) (t : ℕ) (v : Vehicle) → mayEnter x v ≡ true → Receipt x d t v (arriveDesk x d t v)
 receipt x d t v = by (isFrom (numberAt x) v) refl
@@ -72,5 +72,5 @@ receipt x d t v = by (isFrom (numberAt x) v) refl
 
     by : (b : Bool) → isFrom (numberAt x) v ≡ b → cond b (isOpener (v .movement) && back) (eqb (v .heading) (numberAt x)) ≡ true
         → Receipt x d t v (cond b (ownDesk d t (v .movement)) (otherDesk d t (v .class) (v .movement)))
-    by true is may = own is (both (isOpener (v .movement)) back may .0)
-    by false is may = far is
+    by true is may = of-own is (both (isOpener (v .movement)) back may .0)
+    by false is may = of-other is

@@ -39,7 +39,8 @@ module _ {T R : Type 0} (of : List T → R) (l : List T) (from n : ℕ) (fits : 
   pub begins : from ≤ n → {told : R} → told ≡ of [] → Pass of l from n n told
   begins less h = record { within = omega arith; left = less; says = h ∙ ap of (sym (drop-end l n fits)) }
 
-  pub goes-on : {i : ℕ} {told next : R} → Pass of l from n i told → from < i → (d : T) → next ≡ of (getD l (i - 1) d ∷ drop i (take n l)) → Pass of l from n (i - 1) next
+  pub goes-on : {i : ℕ} {told next : R} → Pass of l from n i told → from < i → (d : T) → next ≡ of (getD l (i - 1) d ∷ drop i (take n l))
+      → Pass of l from n (i - 1) next
   goes-on {i} p less d h = record { within = omega arith; left = omega arith; says = h ∙ ap of (sym (drop-down l n fits i d (omega arith) (p .within))) }
 
   pub ends : {i : ℕ} {told : R} → Pass of l from n i told → i ≤ from → told ≡ of (drop from (take n l))

@@ -115,7 +115,8 @@ change s bytes g = rw (step-is s bytes (g .well)) (by (decode bytes) refl)
 -- ---- each case leaves the section well made
 
 -- the section with the vehicles l and x's desk e
-sound-with : (s : Section) (x : Station) (e : Desk) (l : List Vehicle) → s .force ≡ true → Well x e (deskOf s (otherAt x)) l → Sound (withDesk (withLine s l) x e)
+sound-with : (s : Section) (x : Station) (e : Desk) (l : List Vehicle) → s .force ≡ true → Well x e (deskOf s (otherAt x)) l
+    → Sound (withDesk (withLine s l) x e)
 sound-with s x e l f w = record { places = places x; well = made-of s x e l f w }
   where
     places : (x : Station) → length (withDesk (withLine s l) x e .vehicles) ≡ 24

@@ -178,7 +178,8 @@ abbrev Opposed : List (List ℕ) → ℕ → ℕ → Departure → Departure →
 Opposed l i j p q =
     (there (list l) i .heading ≡ 2) × (there (list l) j .heading ≡ 1) × (leftBy (list l) i ≡ some p) × (leftBy (list l) j ≡ some q) × OnTB602 p × OnTB602 q
 
-opposed : (l : List (List ℕ)) (i j n : ℕ) {p q : Departure} → after fresh (list l) .len ≡ n → i < j → j < n → there (list l) i .heading ≡ 2 → there (list l) j .heading ≡ 1
+opposed : (l : List (List ℕ)) (i j n : ℕ) {p q : Departure} → after fresh (list l) .len ≡ n → i < j → j < n → there (list l) i .heading ≡ 2
+    → there (list l) j .heading ≡ 1
     → leftBy (list l) i ≡ some p → leftBy (list l) j ≡ some q → Opposed l i j p q
 opposed l i j n many less present to-B to-A p-left q-left =
     let o = opposed-slow (list l) i j less (omega arith) to-B to-A p-left q-left in

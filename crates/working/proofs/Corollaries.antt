@@ -74,7 +74,8 @@ module _ (s : Section) where
       by (Refused why) h = h
       by Allowed h = tt
 
-  fine-done : (x : Station) (ts : List Test) (p : Plan) → noFive ts ≡ true → Fine (doneBy s x p .answer) → Fine (doneBy s x (unlessRefused (firstOf ts) p) .answer)
+  fine-done : (x : Station) (ts : List Test) (p : Plan) → noFive ts ≡ true → Fine (doneBy s x p .answer)
+      → Fine (doneBy s x (unlessRefused (firstOf ts) p) .answer)
   fine-done x ts p h ok = by (firstOf ts) (fine-first ts h)
     where
       by : (v : Verdict) → fineVerdict v → Fine (doneBy s x (unlessRefused v p) .answer)
@@ -117,7 +118,8 @@ fine-decoded : (s : Section) (e : Decoded) → FineDecoded e → Fine (onDecoded
 fine-decoded s (Bad why) h = h
 fine-decoded s (Says e) h = fine-entered s e
 
-pub never-five : {l : List Done} {s : Section} → Run fresh l s → (before : List Done) (d : Done) (after : List Done) → l ≡ before ++ d ∷ after → Fine (d .answer)
+pub never-five : {l : List Done} {s : Section} → Run fresh l s → (before : List Done) (d : Done) (after : List Done)
+    → l ≡ before ++ d ∷ after → Fine (d .answer)
 never-five {s = s} run before d after is = let q = split-run before (rw is at run) in by (q .0) (q .1) (q .2)
   where
     by : (t : Section) → Run fresh before t → Run t (d ∷ after) s → Fine (d .answer)

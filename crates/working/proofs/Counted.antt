@@ -29,7 +29,8 @@ same-count : (s : Section) (x : Station) (d : Desk) (l : List Vehicle) → withD
 same-count s A d l = refl
 same-count s B d l = refl
 
-counted : (s : Section) (e : Decoded) (r : Stepped) → Change s e r → r .section .refused ≡ cond (isAccepted (r .answer)) (s .refused) (countRefusal s .refused)
+counted : (s : Section) (e : Decoded) (r : Stepped) → Change s e r
+    → r .section .refused ≡ cond (isAccepted (r .answer)) (s .refused) (countRefusal s .refused)
 counted s e r (refusal k why) = refl
 counted s e r (emptying k force) = refl
 counted s e r (departure x time act f p w) = same-count s x _ _
@@ -40,7 +41,8 @@ counted s e r (meeting x y n i f h) = refl
 abbrev oneMore : Stepped → ℕ
 oneMore r = oneIf (not (isAccepted (r .answer)))
 
-count-step : (s : Section) (bytes : List ℕ) → Sound s → s .refused + oneMore (stepOf s bytes) ≤ 4294967295 → stepOf s bytes .section .refused ≡ s .refused + oneMore (stepOf s bytes)
+count-step : (s : Section) (bytes : List ℕ) → Sound s → s .refused + oneMore (stepOf s bytes) ≤ 4294967295
+    → stepOf s bytes .section .refused ≡ s .refused + oneMore (stepOf s bytes)
 count-step s bytes g few = counted s (decode bytes) (stepOf s bytes) (change s bytes g) ∙ by (isAccepted (stepOf s bytes .answer)) few
   where
     by : (b : Bool) → s .refused + oneIf (not b) ≤ 4294967295 → cond b (s .refused) (countRefusal s .refused) ≡ s .refused + oneIf (not b)
@@ -67,5 +69,6 @@ refused-counted log short =
     count-turns log (sound-emptied false 0) (log-follows fresh log) (omega arith) ∙ omega arith
 
 -- "entries, accepted, refused"
-pub last-line : (log : List ℕ) → length log ≤ 4294967295 → entriesIn (turnsOf fresh log) ≡ acceptedIn (turnsOf fresh log) + sectionAfter fresh (turnsOf fresh log) .refused
+pub last-line : (log : List ℕ) → length log ≤ 4294967295
+    → entriesIn (turnsOf fresh log) ≡ acceptedIn (turnsOf fresh log) + sectionAfter fresh (turnsOf fresh log) .refused
 last-line log short = rw (refused-counted log short) (entries-sum (turnsOf fresh log))

@@ -315,7 +315,8 @@ kept-train d o t a g mine theirs h p =
 
 -- the station's own OPEN or THROUGH
 pub kept-own : (d o : Desk) (t sent : ℕ) (m : Movement) (mine theirs : List Movement) → Halves d o (m ∷ mine) theirs
-    → isOpener m ≡ true → Halves (received d t sent (record { out = cond (isOpen m) false (d .out); guest = d .guest; clears = d .clears })) o mine theirs
+    → isOpener m ≡ true
+    → Halves (received d t sent (record { out = cond (isOpen m) false (d .out); guest = d .guest; clears = d .clears })) o mine theirs
 kept-own d o t sent m mine theirs h op =
     let k = opener m op in
     let own-guest : d .guest ≡ 0 = zero-unless (d .guest) (λ some. cons-nil (h .own .guests some .none)) in
@@ -367,7 +368,8 @@ module _ (d o : Desk) (m : Movement) (l : List Movement) (h : Halves d o [] (l +
   far-row = row-snoc l m (h .far .row)
 
 -- an OPEN becomes a guest
-pub kept-guest : (d o : Desk) (t class a : ℕ) (l : List Movement) → Halves d o [] (l ++ Open a ∷ []) → 0 < class → Halves (otherDesk d t class (Open a)) o [] l
+pub kept-guest : (d o : Desk) (t class a : ℕ) (l : List Movement) → Halves d o [] (l ++ Open a ∷ []) → 0 < class
+    → Halves (otherDesk d t class (Open a)) o [] l
 kept-guest d o t class a l h guest =
     let m = Open a in
     let nil : l ≡ [] = alone l m (h .far .row) (λ modest. true≢false (modest .no-open)) in
@@ -402,7 +404,8 @@ comes d t class Through n none = record { out = refl; holds = none; owes = omega
 comes d t class (Return a g) n none = record { out = refl; holds = refl; owes = omega arith; guest = refl }
 comes d t class (Train a g) n none = record { out = refl; holds = refl; owes = refl; guest = refl }
 
-pub kept-far : (d o : Desk) (t class : ℕ) (m : Movement) (l : List Movement) → Halves d o [] (l ++ m ∷ []) → isOpen m ≡ false → Halves (otherDesk d t class m) o [] l
+pub kept-far : (d o : Desk) (t class : ℕ) (m : Movement) (l : List Movement) → Halves d o [] (l ++ m ∷ []) → isOpen m ≡ false
+    → Halves (otherDesk d t class m) o [] l
 kept-far d o t class m l h n =
     let e = otherDesk d t class m in
     let k = comes d t class m n (far-holds d o m l h) in

@@ -162,7 +162,8 @@ from-two-ordered (v ∷ l) e =
     rw (q, e)
 
 -- behind a vehicle of the other station there is only the other station's
-pub ordered-far : (x : Station) (v : Vehicle) (l : List Vehicle) → NotFrom x v → ordered (insertAt x v l) ≡ true → (ordered l ≡ true) × Every (From (otherAt x)) l
+pub ordered-far : (x : Station) (v : Vehicle) (l : List Vehicle) → NotFrom x v → ordered (insertAt x v l) ≡ true
+    → (ordered l ≡ true) × Every (From (otherAt x)) l
 ordered-far A v l e h =
     let q : (isFrom 2 v && all (isFrom 2) l) ≡ true = rw e at h in
     let r = both (isFrom 2 v) (all (isFrom 2) l) q .1 in
@@ -170,7 +171,8 @@ ordered-far A v l e h =
 ordered-far B v [] e h = (refl, tt)
 ordered-far B v (u ∷ l) e h = by (ordered-far B v l e) (isFrom 1 u) refl
   where
-    by : (ordered (l ++ v ∷ []) ≡ true → (ordered l ≡ true) × Every (From A) l) → (b : Bool) → isFrom 1 u ≡ b → (ordered (u ∷ l) ≡ true) × Every (From A) (u ∷ l)
+    by : (ordered (l ++ v ∷ []) ≡ true → (ordered l ≡ true) × Every (From A) l) → (b : Bool) → isFrom 1 u ≡ b
+        → (ordered (u ∷ l) ≡ true) × Every (From A) (u ∷ l)
     by more true p = let r = more (rw p at h) in (rw p (r .0), (p, r .1))
     by more false p =
         let q : (isFrom 2 u && all (isFrom 2) (l ++ v ∷ [])) ≡ true = rw p at h in

@@ -21,7 +21,8 @@ step-did d s t h = by (d .form) h
     by byValue h = record { answered = ap (λ (r : Stepped). r .answer) h; left = ap (λ (r : Stepped). r .section) h }
     by inPlace h = record { answered = h .0; left = h .1 }
 
-pub step-by : (f : Form) (s : Section) (bytes : List ℕ) {a : Answer} {t : Section} → a ≡ stepOf s bytes .answer → t ≡ stepOf s bytes .section → StepBy f s bytes a t
+pub step-by : (f : Form) (s : Section) (bytes : List ℕ) {a : Answer} {t : Section} → a ≡ stepOf s bytes .answer
+    → t ≡ stepOf s bytes .section → StepBy f s bytes a t
 step-by byValue s bytes p q = λ i. record { answer = p i; section = q i }
 step-by inPlace s bytes p q = (p, q)
 

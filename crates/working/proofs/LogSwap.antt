@@ -65,7 +65,8 @@ record Neighbours (f : Form) (log : List ℕ) (at : ℕ) (before : List Turn) (t
   later : Follow log (u .after) (behind log u) after
   bytes : joined (map (stepFor f log) before) ++ drop (t .at) log ≡ drop at log
 
-neighbours-in : (f : Form) (log : List ℕ) (before : List Turn) {t u : Turn} {after : List Turn} {s : Section} {at : ℕ} → Follow log s at (before ++ t ∷ u ∷ after)
+neighbours-in : (f : Form) (log : List ℕ) (before : List Turn) {t u : Turn} {after : List Turn} {s : Section} {at : ℕ}
+    → Follow log s at (before ++ t ∷ u ∷ after)
     → Neighbours f log at before t u after
 neighbours-in f log [] {t} {s = s} (and-then own part (and-then own₁ part₁ later)) = record {
   from = s;

@@ -192,13 +192,15 @@ well-of s x places h =
     }
 
 -- the section with the vehicles l and x's desk e
-pub made-of : (s : Section) (x : Station) (e : Desk) (l : List Vehicle) → s .force ≡ true → Well x e (deskOf s (otherAt x)) l → wellMade (withDesk (withLine s l) x e) ≡ true
+pub made-of : (s : Section) (x : Station) (e : Desk) (l : List Vehicle) → s .force ≡ true → Well x e (deskOf s (otherAt x)) l
+    → wellMade (withDesk (withLine s l) x e) ≡ true
 made-of s x e l f w = by x (w .own) (w .far)
   where
     line : take (length l) (padTo 24 l) ≡ l
     line = line-with 24 l (w .fits)
 
-    made : (d o : Desk) → DeskMade 1 d l → DeskMade 2 o l → wellMade (record { vehicles = padTo 24 l; len = length l; force = s .force; refused = s .refused; a = d; b = o }) ≡ true
+    made : (d o : Desk) → DeskMade 1 d l → DeskMade 2 o l
+        → wellMade (record { vehicles = padTo 24 l; len = length l; force = s .force; refused = s .refused; a = d; b = o }) ≡ true
     made d o own far =
         section-tests _
         (record {
@@ -212,6 +214,7 @@ made-of s x e l f w = by x (w .own) (w .far)
           idle = rw f;
         })
 
-    by : (x : Station) → DeskMade (numberAt x) e l → DeskMade (numberAt (otherAt x)) (deskOf s (otherAt x)) l → wellMade (withDesk (withLine s l) x e) ≡ true
+    by : (x : Station) → DeskMade (numberAt x) e l → DeskMade (numberAt (otherAt x)) (deskOf s (otherAt x)) l
+        → wellMade (withDesk (withLine s l) x e) ≡ true
     by A own far = made e (s .b) own far
     by B own far = made (s .a) e far own

@@ -80,7 +80,8 @@ module _ (z : Station) where
     number = every-turn (Numbered n (d .last)) z (λ v number. number) i l (m .number);
   }
 
-  pub well-turn : (x : Station) (d o : Desk) (i : ℕ) (l : List Vehicle) → Well x d o l → isOpener (getD l i unused .movement) ≡ true → Well x d o (turnAt z i l)
+  pub well-turn : (x : Station) (d o : Desk) (i : ℕ) (l : List Vehicle) → Well x d o l → isOpener (getD l i unused .movement) ≡ true
+      → Well x d o (turnAt z i l)
   well-turn x d o i l w h = record {
     fits = omega (arith, turn-length i l, w .fits);
     shape = turn-shape i l (w .shape) h;

@@ -56,7 +56,8 @@ pub data Fate (act : Act) (x : Station) (force : Bool) (d : Desk) (t : ℕ) (v :
   arrives : (y : Station) (n : ℕ) → act ≡ acts.Receive y n → force ≡ true → isNamed y n v ≡ true → mayEnter x v ≡ true
       → Fate act x force d t v (Arrive (arriveDesk x d t v))
 
-plan-elim : (P : Plan → Type 0) (tests : List Test) (p : Plan) → ((why : Refusal) → P (Refuse why)) → (NoneHolds tests → P p) → P (unlessRefused (firstOf tests) p)
+plan-elim : (P : Plan → Type 0) (tests : List Test) (p : Plan) → ((why : Refusal) → P (Refuse why)) → (NoneHolds tests → P p)
+    → P (unlessRefused (firstOf tests) p)
 plan-elim P tests p refused ok = by (firstOf tests) refl
   where
     by : (v : Verdict) → firstOf tests ≡ v → P (unlessRefused v p)
@@ -112,7 +113,8 @@ open-slow Night = refl
 open-slow Impaired = refl
 
 -- OPEN and THROUGH, on forms that are odd: the 1 of T/B 602 is among them
-opener-fate : (act : Act) (x : Station) (force : Bool) (d : Desk) (t : ℕ) (v : Vehicle) (out : Bool) (m : Movement) (class forms : ℕ) (w : View) → Bounds d
+opener-fate : (act : Act) (x : Station) (force : Bool) (d : Desk) (t : ℕ) (v : Vehicle) (out : Bool) (m : Movement) (class forms : ℕ) (w : View)
+    → Bounds d
     → isOpener m ≡ true → (OpenPasses d → out ≡ isOpen m) → MovementMade m class → kindOf act ≡ some (kindIn m) → eqb (forms % 2) 1 ≡ true
     → Fate act x force d t v (unlessRefused (firstOf (departTests force d t (openTests d)))
     (Depart (record {
@@ -132,7 +134,8 @@ opener-fate act x force d t v out m class forms w b is out-is made kind odd =
       slowly = λ q. and (eqb (forms % 2) 1) (isSlow (openSpeed w)) odd (open-slow w);
     })
 
-pub fate : (act : Act) (x : Station) (force : Bool) (d : Desk) (t : ℕ) (v : Vehicle) → ActMade act → Bounds d → Fate act x force d t v (planOf act x force d t v)
+pub fate : (act : Act) (x : Station) (force : Bool) (d : Desk) (t : ℕ) (v : Vehicle) → ActMade act → Bounds d
+    → Fate act x force d t v (planOf act x force d t v)
 fate (acts.Open w class asked) x force d t v made b =
     opener-fate (acts.Open w class asked) x force d t v true (Open asked) class 7 w b refl (λ p. refl) made refl refl
 fate (acts.Through w) x force d t v made b = opener-fate (acts.Through w) x force d t v (d .out) Through 1 1 w b refl (λ p. p .out) (omega arith) refl refl

@@ -52,7 +52,8 @@ bit-fits : (row : Row) (map : ℕ) (is : List ℕ) (i : ℕ) → rowFits row map
 bit-fits row map [] i h there = absurd (false≢true there)
 bit-fits row map (j ∷ is) i h there = let p = both (bitFits row map j) (rowFits row map is) h in by (eqb i j) refl (p .0) (bit-fits row map is i (p .1)) there
   where
-    by : (b : Bool) → eqb i j ≡ b → bitFits row map j ≡ true → (isIn i is ≡ true → bitFits row map i ≡ true) → (b || isIn i is) ≡ true → bitFits row map i ≡ true
+    by : (b : Bool) → eqb i j ≡ b → bitFits row map j ≡ true → (isIn i is ≡ true → bitFits row map i ≡ true) → (b || isIn i is) ≡ true
+        → bitFits row map i ≡ true
     by true is-j here later there = rw (eqb-true i j is-j) here
     by false is-j here later there = later there
 

@@ -45,13 +45,15 @@ arrives-far d t class (Train a g) made b = arrived d t 0 _ (omega (arith, either
 
 -- ---- the invariant
 
-pub keeps-own : (d o : Desk) (t : ℕ) (m : Movement) (mine theirs : List Movement) → isOpener m ≡ true → Halves d o (m ∷ mine) theirs → Halves (ownDesk d t m) o mine theirs
+pub keeps-own : (d o : Desk) (t : ℕ) (m : Movement) (mine theirs : List Movement) → isOpener m ≡ true → Halves d o (m ∷ mine) theirs
+    → Halves (ownDesk d t m) o mine theirs
 keeps-own d o t (Open a) mine theirs is h = kept-own d o t (d .sent - 1) (Open a) mine theirs h is
 keeps-own d o t Through mine theirs is h = kept-own d o t (d .sent - 1) Through mine theirs h is
 keeps-own d o t (Return a g) mine theirs is h = absurd (false≢true is)
 keeps-own d o t (Train a g) mine theirs is h = absurd (false≢true is)
 
-pub keeps-far : (d o : Desk) (t class : ℕ) (m : Movement) (l : List Movement) → MovementMade m class → Halves d o [] (l ++ m ∷ []) → Halves (otherDesk d t class m) o [] l
+pub keeps-far : (d o : Desk) (t class : ℕ) (m : Movement) (l : List Movement) → MovementMade m class → Halves d o [] (l ++ m ∷ [])
+    → Halves (otherDesk d t class m) o [] l
 keeps-far d o t class (Open a) l made h = kept-guest d o t class a l h (made .least)
 keeps-far d o t class Through l made h = kept-far d o t class Through l h refl
 keeps-far d o t class (Return a g) l made h = kept-far d o t class (Return a g) l h refl

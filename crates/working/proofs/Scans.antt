@@ -33,7 +33,8 @@ pub first-refuses : (ts us : List Test) {why : Refusal} → firstOf ts ≡ Refus
 first-refuses [] us h = cc
 first-refuses (t ∷ ts) us {why} h = by (t .0) (first-refuses ts us) h
   where
-    by : (b : Bool) → (firstOf ts ≡ Refused why → firstOf (ts ++ us) ≡ Refused why) → orElse b (t .1) (firstOf ts) ≡ Refused why → orElse b (t .1) (firstOf (ts ++ us)) ≡ Refused why
+    by : (b : Bool) → (firstOf ts ≡ Refused why → firstOf (ts ++ us) ≡ Refused why) → orElse b (t .1) (firstOf ts) ≡ Refused why
+        → orElse b (t .1) (firstOf (ts ++ us)) ≡ Refused why
     by true later e = e
     by false later e = later e
 
@@ -41,6 +42,7 @@ pub first-passes : (ts us : List Test) → firstOf ts ≡ Allowed → firstOf (t
 first-passes [] us h = refl
 first-passes (t ∷ ts) us h = by (t .0) (first-passes ts us) h
   where
-    by : (b : Bool) → (firstOf ts ≡ Allowed → firstOf (ts ++ us) ≡ firstOf us) → orElse b (t .1) (firstOf ts) ≡ Allowed → orElse b (t .1) (firstOf (ts ++ us)) ≡ firstOf us
+    by : (b : Bool) → (firstOf ts ≡ Allowed → firstOf (ts ++ us) ≡ firstOf us) → orElse b (t .1) (firstOf ts) ≡ Allowed
+        → orElse b (t .1) (firstOf (ts ++ us)) ≡ firstOf us
     by true later e = cc
     by false later e = later e

@@ -94,7 +94,8 @@ unfolding step-computes
 guest-class-kept = (refl, refl)
 
 -- "MEET: .. both then head to the station given and are met": either station, and all else of the two as it was
-both-turn : (x : Station) → (vehicleAt (meeting x) 0 ≡ vehicle (Open 2) 1 1 (numberAt x) true 1) × (vehicleAt (meeting x) 1 ≡ vehicle (Open 1) 2 1 (numberAt x) true 1)
+both-turn : (x : Station)
+    → (vehicleAt (meeting x) 0 ≡ vehicle (Open 2) 1 1 (numberAt x) true 1) × (vehicleAt (meeting x) 1 ≡ vehicle (Open 1) 2 1 (numberAt x) true 1)
 unfolding step-computes
 both-turn A = (refl, refl)
 both-turn B = (refl, refl)

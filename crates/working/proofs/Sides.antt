@@ -82,7 +82,8 @@ own-snoc n (u ∷ l) v = rw (own-snoc n l v) (go (isFrom n u))
     more : List Movement
     more = cond (isFrom n v) (v .movement ∷ []) []
 
-    go : (b : Bool) → cond b (u .movement ∷ (ownMoves n l ++ more)) (ownMoves n l ++ more) ≡ cond b (u .movement ∷ ownMoves n l) (ownMoves n l) ++ more
+    go : (b : Bool)
+        → cond b (u .movement ∷ (ownMoves n l ++ more)) (ownMoves n l ++ more) ≡ cond b (u .movement ∷ ownMoves n l) (ownMoves n l) ++ more
     go true = refl
     go false = refl
 
@@ -132,7 +133,8 @@ moves-turned x z i l = own-seen (numberAt x) x (turnAt z i l) ∙ ap (seenFrom x
 
 -- ---- figures of what a station's vehicles left on
 
-own-weight : (y : Station) (f : Vehicle → ℕ) (g : Movement → ℕ) (l : List Vehicle) → Every (λ v. f v ≡ g (v .movement)) l → sumOver (ofStation y f) l ≡ weigh g (ownMoves (numberAt y) l)
+own-weight : (y : Station) (f : Vehicle → ℕ) (g : Movement → ℕ) (l : List Vehicle) → Every (λ v. f v ≡ g (v .movement)) l
+    → sumOver (ofStation y f) l ≡ weigh g (ownMoves (numberAt y) l)
 own-weight y f g [] a = refl
 own-weight y f g (v ∷ l) a = go (isFrom (numberAt y) v) (own-weight y f g l (a .1))
   where
@@ -150,5 +152,6 @@ weigh-seen A g l = refl
 weigh-seen B g l = weigh-reverse g l
 
 -- a figure that each vehicle has from what it left on, added up over one station's vehicles
-pub moves-weight : (y : Station) (f : Vehicle → ℕ) (g : Movement → ℕ) (l : List Vehicle) → Every (λ v. f v ≡ g (v .movement)) l → sumOver (ofStation y f) l ≡ weigh g (movesOf y l)
+pub moves-weight : (y : Station) (f : Vehicle → ℕ) (g : Movement → ℕ) (l : List Vehicle) → Every (λ v. f v ≡ g (v .movement)) l
+    → sumOver (ofStation y f) l ≡ weigh g (movesOf y l)
 moves-weight y f g l a = own-weight y f g l a ∙ sym (ap (weigh g) (own-seen (numberAt y) y l) ∙ weigh-seen y g (ownMoves (numberAt y) l))

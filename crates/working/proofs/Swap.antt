@@ -123,7 +123,8 @@ near-by o (Refuse r) l h = refl
 near-by o (Depart p) l h = near-inserted o (p .vehicle) l (omega arith)
 near-by o (Arrive d) l h = near-removed o l (omega arith)
 
-line-by : {x y : Station} → Opposite x y → (p q : Plan) (l : List Vehicle) → takes p + takes q ≤ length l → lineBy y q (lineBy x p l) ≡ lineBy x p (lineBy y q l)
+line-by : {x y : Station} → Opposite x y → (p q : Plan) (l : List Vehicle) → takes p + takes q ≤ length l
+    → lineBy y q (lineBy x p l) ≡ lineBy x p (lineBy y q l)
 line-by o (Refuse r) q l h = refl
 line-by o (Depart p) (Refuse r) l h = refl
 line-by o (Depart p) (Depart q) l h = sym (far-insert o (p .vehicle) (q .vehicle) l)
@@ -132,7 +133,8 @@ line-by o (Arrive d) (Refuse r) l h = refl
 line-by o (Arrive d) (Depart q) l h = sym (remove-inserted (flip o) (q .vehicle) l (omega arith))
 line-by o (Arrive d) (Arrive e) l h = removed-both o l (omega arith)
 
-fits-by : (s : Section) (x : Station) → Sound s → {act : Act} {f : Bool} {t : ℕ} {v : Vehicle} {p : Plan} → Fate act x f (deskOf s x) t v p → length (lineBy x p (lineOf s)) ≤ 24
+fits-by : (s : Section) (x : Station) → Sound s → {act : Act} {f : Bool} {t : ℕ} {v : Vehicle} {p : Plan} → Fate act x f (deskOf s x) t v p
+    → length (lineBy x p (lineOf s)) ≤ 24
 fits-by s x g (refuses r) = well-at s x g .fits
 fits-by s x g (departs {p} f k) = omega (arith, insert-length x (p .vehicle) (lineOf s), room-of (well-at s x g) (k .room))
 fits-by s x g (arrives y n is f named may) = omega (arith, remove-short x (lineOf s), well-at s x g .fits)
@@ -140,14 +142,16 @@ fits-by s x g (arrives y n is f named may) = omega (arith, remove-short x (lineO
 -- ---- what a plan reads
 
 -- only a RECEIVE reads the vehicle nearest the station
-plan-same : (act : Act) (x : Station) (f : Bool) (d : Desk) (t : ℕ) (v w : Vehicle) → (isDeparture act ≡ false → v ≡ w) → planOf act x f d t v ≡ planOf act x f d t w
+plan-same : (act : Act) (x : Station) (f : Bool) (d : Desk) (t : ℕ) (v w : Vehicle) → (isDeparture act ≡ false → v ≡ w)
+    → planOf act x f d t v ≡ planOf act x f d t w
 plan-same (acts.Open a b c) x f d t v w h = refl
 plan-same (acts.Through a) x f d t v w h = refl
 plan-same (acts.Return a b) x f d t v w h = refl
 plan-same (acts.Train a b c) x f d t v w h = refl
 plan-same (acts.Receive y n) x f d t v w h = ap (planOf (acts.Receive y n) x f d t) (h refl)
 
-takes-one : {act : Act} {x : Station} {f : Bool} {d : Desk} {t : ℕ} {v : Vehicle} {p : Plan} → Fate act x f d t v p → Accepts p → isDeparture act ≡ false → takes p ≡ 1
+takes-one : {act : Act} {x : Station} {f : Bool} {d : Desk} {t : ℕ} {v : Vehicle} {p : Plan} → Fate act x f d t v p → Accepts p
+    → isDeparture act ≡ false → takes p ≡ 1
 takes-one (refuses r) ok receives = absurd (false≢true ok)
 takes-one (departs f k) ok receives = absurd (clash (ap isSome (k .kind)) receives)
 takes-one (arrives y n is f named may) ok receives = refl
@@ -165,14 +169,16 @@ same-station A B h = absurd (false≢true h)
 same-station B A h = absurd (false≢true h)
 same-station B B h = refl
 
-just-sent : (x y z : Station) (n : ℕ) (v : Vehicle) → v .sender ≡ numberAt x → isNamed z n (nearestAt y (insertAt x v [])) ≡ true → acts.Receive z n ≡ acts.Receive x (v .form)
+just-sent : (x y z : Station) (n : ℕ) (v : Vehicle) → v .sender ≡ numberAt x → isNamed z n (nearestAt y (insertAt x v [])) ≡ true
+    → acts.Receive z n ≡ acts.Receive x (v .form)
 just-sent x y z n v from named =
     let (sender, form) = both (eqb (v .sender) (numberAt z)) (eqb (v .form) n) (rw (one-there x y v) at named) in
     ap₂ acts.Receive (same-station x z (rw from at sender)) (sym (eqb-true (v .form) n form))
 
 -- so two that are accepted find enough vehicles on the line l, whichever goes first
 enough : (l : List Vehicle) {x y : Station} {act bct : Act} {f : Bool} {d e : Desk} {t u : ℕ} {p q : Plan}
-    → Fate act x f d t (nearestAt x l) p → Fate bct y f e u (nearestAt y (lineBy x p l)) q → Accepts p → Accepts q → (ReceivesIt act x (answerBy p) bct → ⊥)
+    → Fate act x f d t (nearestAt x l) p → Fate bct y f e u (nearestAt y (lineBy x p l)) q → Accepts p → Accepts q
+    → (ReceivesIt act x (answerBy p) bct → ⊥)
     → takes p + takes q ≤ length l
 enough l (refuses r) second ok-p ok-q apart = absurd (false≢true ok-p)
 enough l (departs f k) (refuses r) ok-p ok-q apart = absurd (false≢true ok-q)
@@ -212,7 +218,8 @@ module _ {x y : Station} (o : Opposite x y) (s : Section) (p : Plan) (fits : len
       let l = lineBy x p (lineOf s) in
       rw (force-with s x d l, desk-far o s d l, line-after s x d l fits)
 
-  section-after : (q : Plan) → sectionBy (sectionBy s x p) y q ≡ withDesk (withLine (sectionBy s x p) (lineBy y q (lineBy x p (lineOf s)))) y (deskBy q (deskOf s y))
+  section-after : (q : Plan)
+      → sectionBy (sectionBy s x p) y q ≡ withDesk (withLine (sectionBy s x p) (lineBy y q (lineBy x p (lineOf s)))) y (deskBy q (deskOf s y))
   section-after q =
       let d = deskBy p (deskOf s x) in
       let l = lineBy x p (lineOf s) in
@@ -256,7 +263,8 @@ record Acted (s : Section) (b : List ℕ) (x : Station) (p : Plan) : Type 0 wher
   answers : stepOf s b .answer ≡ answerBy p
   leaves : Accepts p → stepOf s b .section ≡ sectionBy s x p
 
-acted : (s : Section) (b : List ℕ) (x : Station) (t : ℕ) (act : Act) (p : Plan) → Sound s → decode b ≡ Says (At x t act) → p ≡ planAt s x t act → Acted s b x p
+acted : (s : Section) (b : List ℕ) (x : Station) (t : ℕ) (act : Act) (p : Plan) → Sound s → decode b ≡ Says (At x t act)
+    → p ≡ planAt s x t act → Acted s b x p
 unfolding entered
 acted s b x t act p g says is =
     let did : stepOf s b ≡ doneBy s x p = step-is s b (g .well) ∙ ap (onDecoded s) says ∙ ap (doneBy s x) (sym is) in
@@ -265,7 +273,8 @@ acted s b x t act p g says is =
       leaves = λ ok. ap (λ (r : Stepped). r .section) did ∙ done-section s x p ok;
     }
 
-pub swapped : (s : Section) (b c : List ℕ) (x y : Station) (t u : ℕ) (act bct : Act) → Opposite x y → Sound s → decode b ≡ Says (At x t act) → decode c ≡ Says (At y u bct)
+pub swapped : (s : Section) (b c : List ℕ) (x y : Station) (t u : ℕ) (act bct : Act) → Opposite x y → Sound s → decode b ≡ Says (At x t act)
+    → decode c ≡ Says (At y u bct)
     → isAccepted (stepOf s b .answer) ≡ true → isAccepted (stepOf (stepOf s b .section) c .answer) ≡ true
     → (ReceivesIt act x (stepOf s b .answer) bct → ⊥) → Swapped s b c
 swapped s b c x y t u act bct o g says-b says-c ok-b ok-c apart =

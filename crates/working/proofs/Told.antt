@@ -50,7 +50,8 @@ later-assoc none b c = refl
 later-assoc (some p) b c = refl
 
 -- one more step at the end of the list
-departure-snoc : (h : List Done) (d : Done) (v : Vehicle) → departureOf (h ++ d ∷ []) v ≡ laterOr (ifOf v (departureBy (decode (d .bytes)) (d .answer))) (departureOf h v)
+departure-snoc : (h : List Done) (d : Done) (v : Vehicle)
+    → departureOf (h ++ d ∷ []) v ≡ laterOr (ifOf v (departureBy (decode (d .bytes)) (d .answer))) (departureOf h v)
 departure-snoc [] d v = sym (later-none (ifOf v (departureBy (decode (d .bytes)) (d .answer))))
 departure-snoc (k ∷ h) d v =
     ap (λ (q : Option Departure). laterOr q (ifOf v (departureBy (decode (k .bytes)) (k .answer)))) (departure-snoc h d v)
@@ -122,7 +123,8 @@ told-depart h d s g told x time act p leaves q a =
     (record { by = this; is = departure-snoc h d v ∙ ap (λ (k : Option Departure). laterOr k (departureOf h v)) its; kind = refl; slowly = leaves .slowly })
     (one-more h d this (deskOf s x .last) by (leaves .form) (lineOf s) (well-at s x g .own .number) told)
 
-pub told-change : (h : List Done) (d : Done) (s : Section) (e : Decoded) (r : Stepped) → Sound s → Change s e r → decode (d .bytes) ≡ e → d .answer ≡ r .answer
+pub told-change : (h : List Done) (d : Done) (s : Section) (e : Decoded) (r : Stepped) → Sound s → Change s e r → decode (d .bytes) ≡ e
+    → d .answer ≡ r .answer
     → Every (Told h) (lineOf s) → Every (Told (h ++ d ∷ [])) (lineOf (r .section))
 told-change h d s e r g (refusal k why) q a t = none-more h d (ap (departureBy (decode (d .bytes))) a ∙ refused-none (decode (d .bytes)) why) (lineOf s) t
 told-change h d s e r g (emptying k force) q a t = tt
@@ -138,7 +140,8 @@ told-change h d s e r g (meeting x y n i f w) q a t =
 
 -- ---- what the departures say of the line
 
-pub trains-told : (h : List Done) (y : Station) (l : List Vehicle) → Every (Told h) l → sumOver (ofStation y (λ v. oneIf (leftOnTrain (departureOf h v)))) l ≡ trains (movesOf y l)
+pub trains-told : (h : List Done) (y : Station) (l : List Vehicle) → Every (Told h) l
+    → sumOver (ofStation y (λ v. oneIf (leftOnTrain (departureOf h v)))) l ≡ trains (movesOf y l)
 trains-told h y l t = moves-weight y (λ v. oneIf (leftOnTrain (departureOf h v))) trainOne l (every-map (Told h) _ (λ v k. rw (k .is, k .kind)) l t)
 
 pub granted-line : (y : Station) (l : List Vehicle) → sumOver (ofStation y (λ v. grantedIn (v .movement))) l ≡ granted (movesOf y l)

@@ -47,6 +47,9 @@ alternately inPlace (bytes ∷ l) = record { form = inPlace; bytes = bytes } ∷
 abbrev list : List (List ℕ) → List Todo
 list l = alternately byValue (begin ∷ l)
 
+abbrev handed : Form → List ℕ → Answer → Done
+handed form bytes answer = record { form = form; bytes = bytes; answer = answer }
+
 -- the vehicle at a place after a list, and its departure in that list
 abbrev there : List Todo → ℕ → Vehicle
 there l i = vehicleAt (after fresh l) i
@@ -74,7 +77,7 @@ following x = running x ++ trainGranting (numberAt x) 121 3 ∷ []
 
 -- no bytes, BEGIN, an OPEN: whatever the forms, and whatever answers a run of these bytes is said to have
 each-fixed : {f g h : Form} {a b c : Answer} {s : Section}
-    (run : Run fresh (record { form = f; bytes = []; answer = a } ∷ record { form = g; bytes = begin; answer = b } ∷ record { form = h; bytes = opens 1 10 1 2; answer = c } ∷ []) s)
+    (run : Run fresh (handed f [] a ∷ handed g begin b ∷ handed h (opens 1 10 1 2) c ∷ []) s)
     → results run ≡ record { answer = Refused EndsInside; section = emptied false 1 }
     ∷ record { answer = plain; section = emptied true 1 }
     ∷ record { answer = Accepted 1 7 (Kmh 15); section = working 1 (vehicle (Open 2) 1 1 2 false 1 ∷ []) (figures 10 1 1 (Since 10) true 0 0 0 0) freshDesk }
@@ -167,8 +170,8 @@ OnTB602 p = (p .forms % 2 ≡ 1) × Slow (p .speed)
 opposed-slow : (l : List Todo) (i j : ℕ) {p q : Departure} → i < j → j < after fresh l .len → there l i .heading ≡ 2 → there l j .heading ≡ 1
     → leftBy l i ≡ some p → leftBy l j ≡ some q → OnTB602 p × OnTB602 q
 opposed-slow l i j {p} {q} less present to-B to-A p-left q-left =
-    let o : (leftSlowly (leftBy l i) ≡ true) × (leftSlowly (leftBy l j) ≡ true) = demand3 (runs fresh l) .opposed i j (omega arith) (omega arith) to-B to-A in
-    (on p (rw p-left at (o .0)), on q (rw q-left at (o .1)))
+    let (near, far) = demand3 (runs fresh l) .opposed i j (omega arith) (omega arith) to-B to-A in
+    (on p (rw p-left at near), on q (rw q-left at far))
   where
     on : (p : Departure) → leftSlowly (some p) ≡ true → OnTB602 p
     on p e = let b = both (eqb (p .forms % 2) 1) (isSlow (p .speed)) e in (eqb-true (p .forms % 2) 1 (b .0), slow (p .speed) (b .1))
@@ -196,7 +199,10 @@ three =
 neighbours-or-not : Opposed three 0 2 (departure A THROUGH 2 1 Walking) (departure B THROUGH 1 1 (Kmh 15))
     × Opposed three 1 2 (departure A THROUGH 1 1 (Kmh 10)) (departure B THROUGH 1 1 (Kmh 15))
 unfolding step-computes
-neighbours-or-not = (opposed three 0 2 3 refl (omega arith) (omega arith) refl refl refl refl, opposed three 1 2 3 refl (omega arith) (omega arith) refl refl refl refl)
+neighbours-or-not = (
+  opposed three 0 2 3 refl (omega arith) (omega arith) refl refl refl refl,
+  opposed three 1 2 3 refl (omega arith) (omega arith) refl refl refl refl,
+)
 
 -- a THROUGH opposed to an OPEN, and an OPEN to a THROUGH
 through-and-open : Opposed (opens 1 5 3 2 ∷ through 2 0 9 ∷ []) 0 1 (departure A OPEN 1 7 Walking) (departure B THROUGH 1 1 (Kmh 15))
@@ -262,10 +268,10 @@ todos [] = []
 todos (d ∷ l) = record { form = d .form; bytes = d .bytes } ∷ todos l
 
 abbrev returned : List ℕ → Answer → Done
-returned bytes answer = record { form = byValue; bytes = bytes; answer = answer }
+returned bytes answer = handed byValue bytes answer
 
 abbrev inMemory : List ℕ → Answer → Done
-inMemory bytes answer = record { form = inPlace; bytes = bytes; answer = answer }
+inMemory bytes answer = handed inPlace bytes answer
 
 -- B and A open in view 3, then B and A take their own openers back
 abbrev begins : List Done

@@ -38,10 +38,11 @@ pub record Kept (h : List Done) (s : Section) : Type 0 where
 kept-step : (h : List Done) (d : Done) (s t : Section) → Kept h s → StepBy (d .form) s (d .bytes) (d .answer) t → Kept (h ++ d ∷ []) t
 kept-step h d s t k b =
     let did = step-did d s t b in
+    let sound = k .good .sound in
     rw (did .left)
     (record {
       good = good-step s (d .bytes) (k .good);
-      told = told-change h d s (decode (d .bytes)) (stepOf s (d .bytes)) (k .good .sound) (change s (d .bytes) (k .good .sound)) refl (did .answered) (k .told);
+      told = told-change h d s (decode (d .bytes)) (stepOf s (d .bytes)) sound (change s (d .bytes) sound) refl (did .answered) (k .told);
     })
 
 kept-run : (h : List Done) {s t : Section} {l : List Done} → Kept h s → Run s l t → Kept (h ++ l) t
@@ -59,7 +60,8 @@ opposite A B h = ab
 opposite B A h = ba
 opposite B B h = absurd (h refl)
 
-module _ (d e : Done) (x y : Station) (first second : Act) (p : AcceptedAt d x first) (q : AcceptedAt e y second) (other : x ≡ y → ⊥) (apart : ReceivesIt first x (d .answer) second → ⊥) where
+module _ (d e : Done) (x y : Station) (first second : Act) (p : AcceptedAt d x first) (q : AcceptedAt e y second)
+    (other : x ≡ y → ⊥) (apart : ReceivesIt first x (d .answer) second → ⊥) where
   swap-known : (t t₁ t₂ u : Section) (after : List Done) → Good t → StepDid d t t₁ → StepDid e t₁ t₂ → Run t₂ after u → Run t (e ∷ d ∷ after) u
   swap-known t t₁ t₂ u after g a b r =
       let later : StepDid e (stepOf t (d .bytes) .section) t₂ = rw (a .left) at b in

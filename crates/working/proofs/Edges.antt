@@ -159,7 +159,8 @@ pub edges-find :
     (sameSection begun (working 0 [] freshDesk freshDesk)
     ∷ sameSection guest (working 0 [] (figures 10 1 1 (Since 10) true 0 0 0 0) (figures 70 0 0 Stopped false 1 2 0 0))
     ∷ sameSection holding (working 0 [] (figures 95 1 0 Stopped false 0 0 2 0) (figures 75 1 1 (Since 75) false 0 0 0 2))
-    ∷ sameSection met (working 0 (vehicle (Open 1) 1 1 2 true 1 ∷ vehicle (Open 1) 2 1 2 true 1 ∷ []) (figures 1 1 1 (Since 1) true 0 0 0 0) (figures 1 1 1 (Since 1) true 0 0 0 0))
+    ∷ sameSection met
+    (working 0 (vehicle (Open 1) 1 1 2 true 1 ∷ vehicle (Open 1) 2 1 2 true 1 ∷ []) (figures 1 1 1 (Since 1) true 0 0 0 0) (figures 1 1 1 (Since 1) true 0 0 0 0))
     ∷ [])
     ≡ true
 unfolding guest holding met step-computes

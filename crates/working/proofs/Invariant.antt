@@ -281,7 +281,8 @@ kept-return d o t a g mine theirs h p =
     rw (q .none, q .none-far)
     (record {
       own = quiet refl (p .holds) (omega (arith, alone .own .sum)) (alone .own .outs) (tt, tt) (no-far refl);
-      far = quiet (q .guest) (omega (arith, alone .own .sum)) (omega (arith, alone .far .sum, q .holds)) (alone .far .outs ∙ rw (lt-ltb 0 (d .guest) (p .guest))) tt (openers tt);
+      far = quiet (q .guest) (omega (arith, alone .own .sum)) (omega (arith, alone .far .sum, q .holds))
+          (alone .far .outs ∙ rw (lt-ltb 0 (d .guest) (p .guest))) tt (openers tt);
     })
 
 -- a TRAIN

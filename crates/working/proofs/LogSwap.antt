@@ -151,7 +151,8 @@ parts-swap p a b q before t u after x y first second is at own-t own-u ok-t ok-u
     let behind-u : List ℕ = drop (behind log u) log in
     let head : take (t .at) log ≡ p = take-at p (a ++ (b ++ q)) (t .at) (sym at) in
     let stand : log ≡ p ++ (a ++ (b ++ behind-u)) = rw (head, own-t, own-u) at (neighbours byValue log before t u after is) in
-    let tail : q ≡ behind-u = append-cancel-left b q behind-u (append-cancel-left a (b ++ q) (b ++ behind-u) (append-cancel-left p (a ++ (b ++ q)) (a ++ (b ++ behind-u)) stand)) in
+    let behind-p = append-cancel-left p (a ++ (b ++ q)) (a ++ (b ++ behind-u)) stand in
+    let tail : q ≡ behind-u = append-cancel-left b q behind-u (append-cancel-left a (b ++ q) (b ++ behind-u) behind-p) in
     let changed : changedAbout log t u ≡ p ++ (b ++ (a ++ q)) = rw (head, own-u, own-t, ← tail) in
     let swapped = rw changed at (log-swap byValue log before t u after x y first second is ok-t ok-u other apart) in
     (simp (map-append, map-map) at (ap (map (λ (d : Done). d .answer)) (swapped .0)), swapped .1)

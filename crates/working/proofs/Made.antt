@@ -75,7 +75,8 @@ well-insert act x d o p l w q =
     let from : From x v = eq-eqb (v .sender) n (q .sender) in
     let one : oneIf (isFrom n v) ≡ 1 = rw from in
     let none : oneIf (isFrom m v) ≡ 0 = rw (not-other x v from) in
-    let differs = every-all (λ u. not (same v u)) (Numbered n (d .last)) (λ u number. rw (other-form v u (d .last) (rw (q .sender) number) (q .form))) l (w .own .number) in
+    let others : (u : Vehicle) → Numbered n (d .last) u → not (same v u) ≡ true = λ u number. rw (other-form v u (d .last) (rw (q .sender) number) (q .form)) in
+    let differs = every-all (λ u. not (same v u)) (Numbered n (d .last)) others l (w .own .number) in
     let earlier = every-map (Numbered n (d .last)) (Numbered n (p .desk .last)) (λ u number from. omega (arith, number from, q .last)) l (w .own .number) in
     record {
       fits = omega (arith, insert-length x v l, room-of w (q .room));

@@ -54,7 +54,9 @@ unfolding step-computes
 refusal-counts = refl
 
 -- "a 32-bit count of refused entries that stops at its largest value": from 4,294,967,294 to 4,294,967,295, and it stays there
-count-stops : (after (refusing 4294967294) ([] ∷ []) ≡ refusing 4294967295) × (after (refusing 4294967294) ([] ∷ [] ∷ []) ≡ refusing 4294967295) × (after (refusing 4294967295) ([] ∷ []) ≡ refusing 4294967295)
+count-stops : (after (refusing 4294967294) ([] ∷ []) ≡ refusing 4294967295)
+    × (after (refusing 4294967294) ([] ∷ [] ∷ []) ≡ refusing 4294967295)
+    × (after (refusing 4294967295) ([] ∷ []) ≡ refusing 4294967295)
 unfolding step-computes
 count-stops = (refl, refl, refl)
 
@@ -79,7 +81,11 @@ unfolding guest step-computes
 enquiry-is-no-line-clear = (refl, refl, refl)
 
 -- "RETURN: guest and asked at S cleared; the vehicle has the guest's class and carries asked and granted; granted above 0 becomes S's owes."
-return-leaves : (returning .b .guest ≡ 0) × (returning .b .clears .asked ≡ 0) × (returning .b .clears .owes ≡ 2) × (vehicleAt returning 0 .class ≡ 1) × (vehicleAt returning 0 .movement ≡ Return 0 2)
+return-leaves : (returning .b .guest ≡ 0)
+    × (returning .b .clears .asked ≡ 0)
+    × (returning .b .clears .owes ≡ 2)
+    × (vehicleAt returning 0 .class ≡ 1)
+    × (vehicleAt returning 0 .movement ≡ Return 0 2)
 unfolding guest step-computes
 return-leaves = (refl, refl, refl, refl, refl)
 

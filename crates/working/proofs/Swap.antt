@@ -75,7 +75,7 @@ module _ {x y : Station} (o : Opposite x y) where
   removed-both : (l : List Vehicle) → 2 ≤ length l → removeAt y (removeAt x l) ≡ removeAt x (removeAt y l)
   removed-both l h =
       let k = nearest x l (omega arith) in
-      let far : removeAt y l ≡ insertAt x (k .vehicle) (removeAt y (k .others)) = ap (removeAt y) (k .line) ∙ remove-inserted (k .vehicle) (k .others) (omega (arith, k .size)) in
+      let far = ap (removeAt y) (k .line) ∙ remove-inserted (k .vehicle) (k .others) (omega (arith, k .size)) in
       ap (removeAt y) (k .rest) ∙ sym (ap (removeAt x) far ∙ remove-insert x (k .vehicle) (removeAt y (k .others)))
 
 -- ---- a plan's effect at its station's end

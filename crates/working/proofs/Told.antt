@@ -118,7 +118,7 @@ told-depart h d s g told x time act p leaves q a =
     let v = p .vehicle in
     let this : Departure = record { station = x; kind = kindIn (v .movement); number = v .form; forms = p .order .forms; speed = p .order .speed } in
     let by : departureBy (decode (d .bytes)) (d .answer) ≡ some this = rw (q, a, leaves .kind) in
-    let its : ifOf v (departureBy (decode (d .bytes)) (d .answer)) ≡ some this = ap (ifOf v) by ∙ rw (leaves .sender, number-same x, eq-eqb (v .form) (v .form) refl) in
+    let its : ifOf v (departureBy (decode (d .bytes)) (d .answer)) ≡ some this = rw (by, leaves .sender, number-same x, eq-eqb (v .form) (v .form) refl) in
     every-insert (Told (h ++ d ∷ [])) x v (lineOf s)
     (record { by = this; is = departure-snoc h d v ∙ ap (λ (k : Option Departure). laterOr k (departureOf h v)) its; kind = refl; slowly = leaves .slowly })
     (one-more h d this (deskOf s x .last) by (leaves .form) (lineOf s) (well-at s x g .own .number) told)

@@ -8,13 +8,12 @@ use Rattle.working.proofs.Meeting.{turn-left-on, well-turn}
 use Rattle.working.proofs.Plans.{Departs, Fate, arrives, departs, fate, refuses}
 use Rattle.working.proofs.Ranges.{Ranged, ranged-of}
 use Rattle.working.proofs.Reasons.{meet-passes, meets}
-use Rattle.working.proofs.Tests.{NoneHolds, none-holds}
+use Rattle.working.proofs.Scans.{scanned}
 use Rattle.working.specs.Acts as acts
 use Rattle.working.specs.Acts.{Act}
 use Rattle.working.specs.Effects.{Depart, Departing, Plan, arriveDesk}
 use Rattle.working.specs.Events.{At, Bad, Begin, Decoded, Event, Meet, Resume, Says, decode}
 use Rattle.working.specs.Reasons.{beginTests, findOf, isNamed, mayEnter, mayMeet, meetTests, resumeTests}
-use Rattle.working.specs.Refusals.{Test, firstOf}
 use Rattle.working.specs.Sections.{deskOf, emptied, insertAt, lineOf, nearestAt, otherAt, padTo, withDesk, withLine}
 use Rattle.working.specs.Steps.{accepted, doneBy, entered, metAt, onDecoded, planOf, refused, settled, stepOf, turnAt}
 use Rattle.working.specs.WellMade.{wellMade}
@@ -25,8 +24,6 @@ use Rattle.working.specs.declared.Station.the-variants.{A, B}
 use Rattle.working.specs.declared.Station.{Station}
 use Rattle.working.specs.declared.Stepped.{Stepped}
 use Rattle.working.specs.declared.Vehicle.{Vehicle}
-use Rattle.working.specs.declared.Verdict.the-variants.{Allowed, Refused}
-use Rattle.working.specs.declared.Verdict.{Verdict}
 use lib.ListN.{length}
 use mathlib.Core.Bool.{Bool, false, false≢true, true}
 use mathlib.Core.List.{List, [], _∷_}
@@ -70,14 +67,6 @@ pub data Change (s : Section) : Decoded → Stepped → Type 0 where
   meeting : (x y : Station) (n i : ℕ) → s .force ≡ true → Well A (s .a) (s .b) (metAt x i (lineOf s))
       → Change s (Says (Meet x y n)) (accepted (withLine s (metAt x i (lineOf s))))
 
-settled-elim : (s : Section) (P : Stepped → Type 0) (tests : List Test) (t : Section)
-    → ((why : Refusal) → P (refused s why)) → (NoneHolds tests → P (accepted t)) → P (settled s (firstOf tests) t)
-settled-elim s P tests t refuse ok = by (firstOf tests) refl
-  where
-    by : (v : Verdict) → firstOf tests ≡ v → P (settled s v t)
-    by (Refused why) e = refuse why
-    by Allowed e = ok (none-holds tests e)
-
 fated : (s : Section) (x : Station) (time : ℕ) (act : Act) (p : Plan) → Sound s → Fate act x (s .force) (deskOf s x) time (nearestAt x (lineOf s)) p
     → Change s (Says (At x time act)) (doneBy s x p)
 fated s x time act p g (refuses why) = refusal (Says (At x time act)) why
@@ -92,16 +81,17 @@ fated s x time act p g (arrives y n is f named may) =
 
 changed : (s : Section) (e : Event) → Sound s → Ranged e → Change s (Says e) (entered s e)
 unfolding entered
-changed s Begin g r = settled-elim s (Change s (Says Begin)) (beginTests (s .force)) _ (refusal (Says Begin)) (λ n. emptying (Says Begin) true)
+changed s Begin g r = scanned (λ v. Change s (Says Begin) (settled s v (emptied true (s .refused)))) (beginTests (s .force)) (refusal (Says Begin)) (λ n. emptying (Says Begin) true)
 changed s (At x time act) g r =
     fated s x time act (planOf act x (s .force) (deskOf s x) time (nearestAt x (lineOf s))) g
     (fate act x (s .force) (deskOf s x) time (nearestAt x (lineOf s)) r (well-at s x g .own .bounds))
-changed s (Meet x y k) g r =
-    let i = findOf y k (lineOf s) in
-    settled-elim s (Change s (Says (Meet x y k))) (meetTests (s .force) (lineOf s) i) _ (refusal (Says (Meet x y k)))
-    (λ n. let p = meet-passes (s .force) (lineOf s) i n in meeting x y k i (p .begun) (well-meet s x i g (p .may)))
+changed s (Meet x y n) g r =
+    let i = findOf y n (lineOf s) in
+    scanned (λ v. Change s (Says (Meet x y n)) (settled s v (withLine s (metAt x i (lineOf s))))) (meetTests (s .force) (lineOf s) i) (refusal (Says (Meet x y n)))
+    (λ none. let p = meet-passes (s .force) (lineOf s) i none in meeting x y n i (p .begun) (well-meet s x i g (p .may)))
 changed s Resume g r =
-    settled-elim s (Change s (Says Resume)) (resumeTests (s .force) (s .len)) _ (refusal (Says Resume)) (λ n. emptying (Says Resume) false)
+    scanned (λ v. Change s (Says Resume) (settled s v (emptied false (s .refused)))) (resumeTests (s .force) (s .len)) (refusal (Says Resume))
+    (λ n. emptying (Says Resume) false)
 
 pub step-is : (s : Section) (bytes : List ℕ) → wellMade s ≡ true → stepOf s bytes ≡ onDecoded s (decode bytes)
 unfolding stepOf

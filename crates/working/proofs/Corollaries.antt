@@ -120,7 +120,7 @@ fine-decoded s (Says e) h = fine-entered s e
 
 pub never-five : {l : List Done} {s : Section} → Run fresh l s → (before : List Done) (d : Done) (after : List Done)
     → l ≡ before ++ d ∷ after → Fine (d .answer)
-never-five {s = s} run before d after is = let q = split-run before (rw is at run) in by (q .0) (q .1) (q .2)
+never-five {s = s} run before d after is = let (t, first, later) = split-run before (rw is at run) in by t first later
   where
     by : (t : Section) → Run fresh before t → Run t (d ∷ after) s → Fine (d .answer)
     by t r (next {t = u} h more) =

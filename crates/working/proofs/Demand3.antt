@@ -84,8 +84,8 @@ demand3 {l} {s} run = record {
       (slow i (omega arith) (o .0), slow j there (o .1));
   owed = λ force x. owed x;
   swap = λ before d e after x y first second is p q other apart.
-      let r = split-run before (rw is at run) in
-      join-run (r .1) (swap-run d e x y first second p q other apart (kept (r .1) .good) (r .2));
+      let (t, front, back) = split-run before (rw is at run) in
+      join-run front (swap-run d e x y first second p q other apart (kept front .good) back);
 }
   where
     k : Kept l s

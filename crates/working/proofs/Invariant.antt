@@ -177,7 +177,7 @@ openers-of [] h t r = tt
 openers-of (Open a ∷ l) h t r = (refl, openers-of l (h .1) (omega arith) (sym (last-cons (Open a) l refl) ∙ r))
 openers-of (Through ∷ l) h t r = (refl, openers-of l (h .1) (omega arith) (sym (last-cons Through l refl) ∙ r))
 openers-of (Return a g ∷ []) h t r = absurd (true≢false r)
-openers-of (Return a g ∷ m ∷ l) h t r = absurd (true≢false (h .0 .0 .return))
+openers-of (Return a g ∷ m ∷ l) ((ahead, others), row) t r = absurd (true≢false (ahead .return))
 openers-of (Train a g ∷ l) h t r = absurd (omega arith)
 
 -- nearest is no OPEN, and there are no grants
@@ -214,7 +214,7 @@ row-snoc (n ∷ l) m h =
 -- an OPEN or a grant is alone
 alone : (l : List Movement) (m : Movement) → InRow (l ++ m ∷ []) → (Modest m → ⊥) → l ≡ []
 alone [] m h e = refl
-alone (n ∷ l) m h e = absurd (e (row-snoc (n ∷ l) m h .1 .0 .modest))
+alone (n ∷ l) m h e = let (row, (first, others)) = row-snoc (n ∷ l) m h in absurd (e (first .modest))
 
 -- no RETURN behind
 row-last : (l : List Movement) (m : Movement) → Every (λ n. Ahead n m) l → lastReturn l ≡ false

@@ -35,7 +35,7 @@ each-result (next {s} {t} {d = d} {l = l} h r) =
 
 pub split-run : (before : List Done) {s u : Section} {l : List Done} → Run s (before ++ l) u → (t : Section) × Run s before t × Run t l u
 split-run [] {s} r = (s, stop, r)
-split-run (d ∷ before) (next h r) = let q = split-run before r in (q .0, next h (q .1), q .2)
+split-run (d ∷ before) (next h r) = let (t, first, later) = split-run before r in (t, next h first, later)
 
 pub join-run : {before l : List Done} {s t u : Section} → Run s before t → Run t l u → Run s (before ++ l) u
 join-run stop r = r

@@ -6,7 +6,8 @@ use Rattle.working.proofs.Clauses.{Bounds, MovementMade, Shape}
 use Rattle.working.proofs.Invariant.{Halves, isOpen, kept-opener, kept-return, kept-train}
 use Rattle.working.proofs.Ranges.{ActMade}
 use Rattle.working.proofs.Reasons.{OpenPasses, depart-passes, open-passes, receive-passes, return-passes, train-passes}
-use Rattle.working.proofs.Tests.{NoneHolds, and, either-most, none-holds}
+use Rattle.working.proofs.Scans.{scanned}
+use Rattle.working.proofs.Tests.{NoneHolds, and, either-most}
 use Rattle.working.specs.Acts as acts
 use Rattle.working.specs.Acts.{Act}
 use Rattle.working.specs.Departures.{kindIn, kindOf}
@@ -23,8 +24,6 @@ use Rattle.working.specs.declared.Refusal.{Refusal}
 use Rattle.working.specs.declared.Station.the-variants.{A, B}
 use Rattle.working.specs.declared.Station.{Station}
 use Rattle.working.specs.declared.Vehicle.{Vehicle}
-use Rattle.working.specs.declared.Verdict.the-variants.{Allowed, Refused}
-use Rattle.working.specs.declared.Verdict.{Verdict}
 use Rattle.working.specs.declared.View.the-variants.{Clear, Impaired, Night}
 use Rattle.working.specs.declared.View.{View}
 use borrow.Author.Tests.{le-leb}
@@ -56,14 +55,6 @@ pub data Fate (act : Act) (x : Station) (force : Bool) (d : Desk) (t : ℕ) (v :
   arrives : (y : Station) (n : ℕ) → act ≡ acts.Receive y n → force ≡ true → isNamed y n v ≡ true → mayEnter x v ≡ true
       → Fate act x force d t v (Arrive (arriveDesk x d t v))
 
-plan-elim : (P : Plan → Type 0) (tests : List Test) (p : Plan) → ((why : Refusal) → P (Refuse why)) → (NoneHolds tests → P p)
-    → P (unlessRefused (firstOf tests) p)
-plan-elim P tests p refused ok = by (firstOf tests) refl
-  where
-    by : (v : Verdict) → firstOf tests ≡ v → P (unlessRefused v p)
-    by (Refused why) e = refused why
-    by Allowed e = ok (none-holds tests e)
-
 -- ---- what is the same for every departure
 
 -- a vehicle that leaves x is one that the section may have
@@ -85,7 +76,8 @@ departs-by : (act : Act) (x : Station) (force : Bool) (d : Desk) (t : ℕ) (v : 
     → Fate act x force d t v (unlessRefused (firstOf (departTests force d t own))
     (Depart (record { desk = departed d t to; vehicle = vehicleFor x (nextForm d) m class; order = order })))
 departs-by act x force d t v own to m class order shows =
-    plan-elim (Fate act x force d t v) (departTests force d t own) _ refuses
+    let plan : Plan = Depart (record { desk = departed d t to; vehicle = vehicleFor x (nextForm d) m class; order = order }) in
+    scanned (λ r. Fate act x force d t v (unlessRefused r plan)) (departTests force d t own) refuses
     (λ n.
     let p = depart-passes force d t own n in
     let k = shows (p .own) in
@@ -162,7 +154,7 @@ fate (acts.Train w asked granted) x force d t v few b =
       slowly = λ q. absurd (false≢true q);
     })
 fate (acts.Receive y k) x force d t v made b =
-    plan-elim (Fate (acts.Receive y k) x force d t v) (stationTests force d t ++ receiveTests x y k v) _ refuses
+    scanned (λ r. Fate (acts.Receive y k) x force d t v (unlessRefused r (Arrive (arriveDesk x d t v)))) (stationTests force d t ++ receiveTests x y k v) refuses
     (λ n.
     let p = receive-passes force d t x y k v n in
     arrives y k refl (p .begun) (p .named) (p .enters))

@@ -11,7 +11,7 @@ use Rattle.working.proofs.Tests.{NoneHolds, and, either-most}
 use Rattle.working.specs.Acts as acts
 use Rattle.working.specs.Acts.{Act}
 use Rattle.working.specs.Departures.{kindIn, kindOf}
-use Rattle.working.specs.Effects.{Arrive, Depart, Departing, Order, Plan, Refuse, Standing, arriveDesk, departed, isSlow, nextForm, openSpeed, vehicleFor}
+use Rattle.working.specs.Effects.{Arrive, Depart, Departing, Order, Plan, Refuse, Standing, arriveDesk, departed, isSlow, nextForm, openForms, openSpeed, throughForms, vehicleFor}
 use Rattle.working.specs.Reasons.{departTests, isNamed, mayEnter, openTests, receiveTests, returnTests, stationTests, trainTests}
 use Rattle.working.specs.Refusals.{Test, firstOf}
 use Rattle.working.specs.Sections.{numberAt}
@@ -129,8 +129,8 @@ opener-fate act x force d t v out m class forms w b is out-is made kind odd =
 pub fate : (act : Act) (x : Station) (force : Bool) (d : Desk) (t : ℕ) (v : Vehicle) → ActMade act → Bounds d
     → Fate act x force d t v (planOf act x force d t v)
 fate (acts.Open w class asked) x force d t v made b =
-    opener-fate (acts.Open w class asked) x force d t v true (Open asked) class 7 w b refl (λ p. refl) made refl refl
-fate (acts.Through w) x force d t v made b = opener-fate (acts.Through w) x force d t v (d .out) Through 1 1 w b refl (λ p. p .out) (omega arith) refl refl
+    opener-fate (acts.Open w class asked) x force d t v true (Open asked) class openForms w b refl (λ p. refl) made refl refl
+fate (acts.Through w) x force d t v made b = opener-fate (acts.Through w) x force d t v (d .out) Through 1 throughForms w b refl (λ p. p .out) (omega arith) refl refl
 fate (acts.Return asked granted) x force d t v few b =
     departs-by (acts.Return asked granted) x force d t v (returnTests d granted) _ (Return asked granted) (d .guest) _
     (λ n.

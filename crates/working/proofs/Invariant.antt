@@ -4,9 +4,9 @@
 --     OUT     out says whether the opener is away: a guest at the other end, the own OPEN, or the other's RETURN nearest here      `outs`
 --     GUEST   a desk with a guest: nothing in the section, no guest opposite, holds and owes nothing      `guests`
 --     HOLDS   a desk that holds a line clear: owes nothing, and every vehicle is a TRAIN of its own      `holding`
---     NEAR    an OPEN, and a vehicle with a grant, is nearest its sender      `row`, by `may`
---     RETURN  a RETURN is nearest the other station      `row`, by `may`; `clear`
---     FRONT   ahead of a RETURN or TRAIN there are only such, of the same sender      `row`, by `may`; `clear`
+--     NEAR    an OPEN, and a vehicle with a grant, is nearest its sender      `row`, by `Ahead`
+--     RETURN  a RETURN is nearest the other station      `row`, by `Ahead`; `clear`
+--     FRONT   ahead of a RETURN or TRAIN there are only such, of the same sender      `row`, by `Ahead`; `clear`
 -- Assumes nothing.
 use Prim.Native.Nat.{_+_, _-_, _<_, ℕ}
 use Rattle.working.proofs.Every.{Every, every-before, every-map}

@@ -81,7 +81,9 @@ fated s x time act p g (arrives y n is f named may) =
 
 changed : (s : Section) (e : Event) → Sound s → Ranged e → Change s (Says e) (entered s e)
 unfolding entered
-changed s Begin g r = scanned (λ v. Change s (Says Begin) (settled s v (emptied true (s .refused)))) (beginTests (s .force)) (refusal (Says Begin)) (λ n. emptying (Says Begin) true)
+changed s Begin g r =
+    scanned (λ v. Change s (Says Begin) (settled s v (emptied true (s .refused)))) (beginTests (s .force)) (refusal (Says Begin))
+    (λ n. emptying (Says Begin) true)
 changed s (At x time act) g r =
     fated s x time act (planOf act x (s .force) (deskOf s x) time (nearestAt x (lineOf s))) g
     (fate act x (s .force) (deskOf s x) time (nearestAt x (lineOf s)) r (well-at s x g .own .bounds))

@@ -170,8 +170,9 @@ OnTB602 p = (p .forms % 2 ≡ 1) × Slow (p .speed)
 opposed-slow : (l : List Todo) (i j : ℕ) {p q : Departure} → i < j → j < after fresh l .len → there l i .heading ≡ 2 → there l j .heading ≡ 1
     → leftBy l i ≡ some p → leftBy l j ≡ some q → OnTB602 p × OnTB602 q
 opposed-slow l i j {p} {q} less present to-B to-A p-left q-left =
-    let (near, far) = demand3 (runs fresh l) .opposed i j (omega arith) (omega arith) to-B to-A in
-    (on p (rw p-left at near), on q (rw q-left at far))
+    let o : (leftSlowly (leftBy l i) ≡ true) × (leftSlowly (leftBy l j) ≡ true) =
+    demand3 (runs fresh l) .opposed i j (omega arith) (omega arith) to-B to-A in
+    (on p (rw p-left at (o .0)), on q (rw q-left at (o .1)))
   where
     on : (p : Departure) → leftSlowly (some p) ≡ true → OnTB602 p
     on p e = let b = both (eqb (p .forms % 2) 1) (isSlow (p .speed)) e in (eqb-true (p .forms % 2) 1 (b .0), slow (p .speed) (b .1))

@@ -6,7 +6,7 @@ use Rattle.lister.specs.declared.reading.Input.the-variants as input
 use Rattle.lister.specs.declared.reading.Input.{Input}
 use Rattle.lister.specs.declared.reading.Reading.the-variants.{On, Over}
 use Rattle.lister.specs.declared.reading.Reading.{Reading}
-use Rattle.listing.specs.Lines.{longestLog}
+use Rattle.listing.specs.LineText.{longestLog}
 use lib.Dec.{eqb}
 use lib.IntN.{negsuc, pos, ℤ}
 use mathlib.Core.Bool.{Bool, cond}

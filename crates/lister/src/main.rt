@@ -3,7 +3,7 @@
 mod reading;
 
 ghost use Prim.Native.Nat.{_≤_};
-ghost use Rattle.listing.specs.Lines.{longestLine};
+ghost use Rattle.listing.specs.LineText.{longestLine};
 ghost use lib.ListN.{length};
 use libc::STDERR_FILENO;
 use libc::STDOUT_FILENO;

@@ -1,2 +1,2 @@
-pub mod Lines
+pub mod LineText
 pub mod Text

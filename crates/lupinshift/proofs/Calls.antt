@@ -2,7 +2,7 @@
 -- leaves in the words stands for where its block ended, so the calls are the blocks of `step`. The last line and its figures are the listing's own (specs/Answers.antt).
 -- Assumes nothing.
 use Prim.Native.Nat.{_+_, _≤_, ℕ}
-use Rattle.listing.specs.Lines.{endLine, longLine, longestLog}
+use Rattle.listing.specs.LineText.{endLine, longLine, longestLog}
 use Rattle.lupinshift.specs.Answers.{EndsTheListing, FiguresInTheEnd, figuresOf}
 use Rattle.lupinshift.specs.State.{Calls, CallsAreListing, FillsOn, NoneMore, fill, listingAt, no-more, stateWords}
 use Rattle.step.proofs.Whole.{blocks, none-left-over}

@@ -1,8 +1,8 @@
 -- A call that is refused and one that is not, by the test that tells: `gives-none`, `gives`. A run from the fresh section is the log's: `from-fresh`.
--- A buffer with the room of a listing, filled once from the start, holds the listing: `lists`. The last line put alone at the front of a buffer: `ends`. Eight stores, one behind the other, are eight figures at the front: `eight`.
+-- A buffer with the room of a listing, filled once from the start, holds the listing: `lists`. The last line put alone at the front of a buffer: `ends`.
 -- Assumes nothing.
 use Prim.Native.Nat.{_<_, _≤_, ℕ}
-use Rattle.listing.specs.Lines.{PutsLine, endFigures, lastLine, longestLine}
+use Rattle.listing.specs.LineText.{PutsLine, endFigures, lastLine, longestLine}
 use Rattle.lupinshift.specs.Answers.{Ends, Gives, Lists, endOf}
 use Rattle.step.proofs.Room.{listing-fits}
 use Rattle.step.proofs.Whole.{room-for-all}
@@ -17,10 +17,9 @@ use Rattle.working.specs.Turns.{turnsOf}
 use Rattle.working.specs.declared.Section.{Section}
 use borrow.Author.Tests.{le-leb, le-ltb, lt-leb, ltb-false, ltb-true}
 use lib.Dec.{ltb}
-use lib.ListN.{length, set}
-use lib.Seq.{sets-eq}
+use lib.ListN.{length}
 use mathlib.Core.Bool.{Bool, false, true}
-use mathlib.Core.List.{List, [], _∷_}
+use mathlib.Core.List.{List}
 use mathlib.Core.Path.{_∙_, _≡_, ap, refl}
 use native.Mathlib.Omega.{arith}
 
@@ -58,7 +57,3 @@ ends log {out} {after} {r} {behind} e put = by (ltb (length out) longestLine) re
     by false room =
         let did = put .puts (le-leb longestLine (length out) (ltb-false _ _ room)) in
         gives room (did .place ∙ omega (arith, ap length line)) (did .left ∙ ap (pasted out 0) line)
-
-pub eight : (l : List ℕ) (a b c d e f g h : ℕ) → 8 ≤ length l
-    → set (set (set (set (set (set (set (set l 0 a) 1 b) 2 c) 3 d) 4 e) 5 f) 6 g) 7 h ≡ pasted l 0 (a ∷ b ∷ c ∷ d ∷ e ∷ f ∷ g ∷ h ∷ [])
-eight l a b c d e f g h room = sets-eq (a ∷ b ∷ c ∷ d ∷ e ∷ f ∷ g ∷ h ∷ []) l 0 room

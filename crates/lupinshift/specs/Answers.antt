@@ -1,6 +1,6 @@
 -- What a host is answered, and what its buffers then hold, by the definitions of the listing and of a log's turns.
 use Prim.Native.Nat.{_≤_, ℕ}
-use Rattle.listing.specs.Lines.{endLine, lastLine, longestLine, longestLog}
+use Rattle.listing.specs.LineText.{endFigureCount, endLine, lastLine, longestLine, longestLog}
 use Rattle.step.specs.Listings.{figuresIn, joined, linesOf, listedTurns, listingOf, listingRoom}
 use Rattle.step.specs.Running.{lastIn}
 use Rattle.step.specs.declared.running.Last.the-variants.{Answered, NoEntry}
@@ -42,9 +42,9 @@ endOf log = lastLine (length log) (figuresOf log)
 abbrev pub Ends : List ℕ → List ℕ → ℕ → List ℕ → Type 0
 Ends log out = Gives (ltb (length out) longestLine) (endOf log) out
 
--- the eight figures, where there are eight places and the log is not too long: the last line of a longer log has none
+-- the figures, where there are as many places and the log is not too long: the last line of a longer log has none
 abbrev pub Figures : List ℕ → List ℕ → ℕ → List ℕ → Type 0
-Figures log figures = Gives (ltb longestLog (length log) || ltb (length figures) 8) (figuresOf log) figures
+Figures log figures = Gives (ltb longestLog (length log) || ltb (length figures) endFigureCount) (figuresOf log) figures
 
 -- the last line and the figures are those of the listing: it ends in the one, whatever the log's length, and that is `end` and the others where the log is not too long
 abbrev pub EndsTheListing : Type 0

@@ -1,10 +1,11 @@
 -- Where a listing stands, in words that a host lends: what listing they stand for, of any words, and what the functions on them leave.
-use Prim.Native.Nat.{_<_, _≤_, ℕ}
-use Rattle.listing.specs.Lines.{longestLine}
-use Rattle.step.specs.Lines.{begun, blockOf, largestCount}
+use Prim.Native.Nat.{_+_, _<_, _≤_, ℕ}
+use Rattle.listing.specs.LineText.{longestLine}
+use Rattle.step.specs.Lines.{begun, blockOf, largestCount, listingIn}
 use Rattle.step.specs.Listings.{listingOf}
+use Rattle.step.specs.declared.lines.Listed.{Listed}
 use Rattle.step.specs.declared.lines.Listing.{Listing}
-use Rattle.words.specs.Words.{sectionIn}
+use Rattle.words.specs.Words.{sectionIn, wordCount}
 use Rattle.working.specs.Entries.{pasted}
 use lib.Dec.{eqb, ltb}
 use lib.ListN.{drop, getD, length, take}
@@ -12,19 +13,21 @@ use mathlib.Core.Bool.{false, true}
 use mathlib.Core.List.{List, [], _++_}
 use mathlib.Core.Path.{_≡_}
 
--- 24 words for the places of the section and 21 for its other figures, then the position, the entries that may come, entries, accepted, and whether it has ended
+-- the words of the section, then the position, the entries that may come, entries, accepted, and whether it has ended
 abbrev pub stateWords : ℕ
-stateWords = 50
+stateWords = wordCount + 5
+
+abbrev pub listedAt : List ℕ → Listed
+listedAt words = record {
+  at = getD words (wordCount + 0) 0;
+  left = getD words (wordCount + 1) 0;
+  entries = getD words (wordCount + 2) 0;
+  accepted = getD words (wordCount + 3) 0;
+  ended = eqb (getD words (wordCount + 4) 0) 1;
+}
 
 unfoldable pub listingAt : List ℕ → Listing
-listingAt words = record {
-  section = sectionIn (take 24 words) (take 21 (drop 24 words));
-  at = getD words 45 0;
-  left = getD words 46 0;
-  entries = getD words 47 0;
-  accepted = getD words 48 0;
-  ended = eqb (getD words 49 0) 1;
-}
+listingAt words = listingIn (listedAt words) (sectionIn (take wordCount words))
 
 -- words that now stand for a listing, as many as before; those behind keep their values
 pub record Holds (l : Listing) (words after : List ℕ) : Type 0 where

@@ -10,13 +10,17 @@ ghost use mathlib.Core.Path.{_≡_};
 mod state;
 
 use crate::state::STATE_WORDS;
+use crate::state::copy;
 use crate::state::keep;
-use crate::state::listing_at;
+use crate::state::listed_at;
+use crate::state::section_words;
+use listing::END_FIGURES;
 use listing::LONGEST_LINE;
 use listing::LONGEST_LOG;
+use listing::end_figures;
 use step::Last;
+use words::fresh_words;
 use working::Answer;
-use working::Section;
 
 // The room that the listing of any log of so many bytes takes, and the longest line more: at most a line of 25 bytes for each byte, and the last line.
 fn listing_room(len: usize) -> usize
@@ -37,11 +41,10 @@ pub extern "C" fn lupin_list(log: &[u8], out: &mut [u8]) -> usize
     if out.len() < listing_room(log.len()) {
         return 0;
     }
-    let filled = step::fill(step::begin(log), log, out);
-    filled.count
+    step::list(log, out)
 }
 
-// The start of a log's listing in the words lent, and how many it takes, 50. The words behind them keep their values.
+// The start of a log's listing in the words lent, and how many it takes, 91. The words behind them keep their values.
 // Where fewer are lent they keep their values, and the answer is 0.
 #[no_mangle]
 pub extern "C" fn lupin_begin(log: &[u8], words: &mut [u64]) -> usize
@@ -50,13 +53,14 @@ pub extern "C" fn lupin_begin(log: &[u8], words: &mut [u64]) -> usize
     if words.len() < STATE_WORDS {
         return 0;
     }
-    keep(words, step::begin(log));
+    let section = fresh_words();
+    keep(words, &section, step::start_of(log.len()));
     STATE_WORDS
 }
 
 // The next lines of a log's listing at the front of the buffer lent, as many as find room, and how many bytes they are. The bytes behind them keep their values. The words
 // say where the listing stands, and are left where it goes on. A buffer of fewer than 172 bytes, the longest line, takes no line; of any longer one the answer is 0 only
-// where the listing has ended. Fewer than 50 words, and the buffer, keep their values, and the answer is 0.
+// where the listing has ended. Fewer than 91 words, and the buffer, keep their values, and the answer is 0.
 #[no_mangle]
 pub extern "C" fn lupin_fill(words: &mut [u64], log: &[u8], out: &mut [u8]) -> usize
     ensures { λ r. ⌜ FillsOn (now (words .entry)) (now (log .entry)) (now (out .entry)) r (now (words .exit)) (now (out .exit)) ⌝ }
@@ -64,11 +68,11 @@ pub extern "C" fn lupin_fill(words: &mut [u64], log: &[u8], out: &mut [u8]) -> u
     if words.len() < STATE_WORDS {
         return 0;
     }
-    let stands = listing_at(words);
-    let put = step::fill(stands, log, out);
-    let goes_on = put.listing;
-    keep(words, goes_on);
-    put.count
+    let mut section = section_words(words);
+    let put = step::fill_words(&mut section, listed_at(words), log, out);
+    let listed = put.listed;
+    keep(words, &section, listed);
+    put.behind
 }
 
 // The last line alone of a log's listing, at the front of the buffer lent, and its length. The bytes behind it keep their values.
@@ -77,13 +81,14 @@ pub extern "C" fn lupin_fill(words: &mut [u64], log: &[u8], out: &mut [u8]) -> u
 pub extern "C" fn lupin_end(log: &[u8], out: &mut [u8]) -> usize
     ensures { λ r. ⌜ Ends (now (log .entry)) (now (out .entry)) r (now (out .exit)) ⌝ }
 {
-    let ran = step::run(Section::fresh(), log, log.len());
-    let section = ran.section;
-    listing::put_last(out, 0, log.len(), ran.entries, ran.accepted, section)
+    let end = step::ended(log);
+    let section = end.section;
+    listing::put_last(out, 0, log.len(), end.entries, end.accepted, section)
 }
 
-// The eight figures of a log's last line, in its order, at the front of the numbers lent, and 8: entries, accepted, refused, vehicles present, A holds, A owes, B holds, B owes.
-// Fewer than eight numbers keep their values, and the answer is 0. So it is of a log that is too long to be listed: its last line, `long`, has no figures.
+// The figures of a log's last line, in its order, at the front of the numbers lent, and how many they are, 8: entries, accepted, refused, vehicles present, A holds, A owes,
+// B holds, B owes. Where fewer numbers are lent they keep their values, and the answer is 0. So it is of a log that is too long to be listed: its last line, `long`, has no
+// figures.
 #[no_mangle]
 pub extern "C" fn lupin_figures(log: &[u8], figures: &mut [u64]) -> usize
     ensures { λ r. ⌜ Figures (now (log .entry)) (now (figures .entry)) r (now (figures .exit)) ⌝ }
@@ -91,22 +96,14 @@ pub extern "C" fn lupin_figures(log: &[u8], figures: &mut [u64]) -> usize
     if LONGEST_LOG < log.len() {
         return 0;
     }
-    if figures.len() < 8 {
+    if figures.len() < END_FIGURES {
         return 0;
     }
-    let ran = step::run(Section::fresh(), log, log.len());
-    let section = ran.section;
-    let a = section.a;
-    let b = section.b;
-    figures[0] = ran.entries as u64;
-    figures[1] = ran.accepted as u64;
-    figures[2] = section.refused as u64;
-    figures[3] = section.len as u64;
-    figures[4] = a.holds as u64;
-    figures[5] = a.owes as u64;
-    figures[6] = b.holds as u64;
-    figures[7] = b.owes as u64;
-    8
+    let end = step::ended(log);
+    let section = end.section;
+    let last_line = end_figures(end.entries, end.accepted, section);
+    copy(&last_line, 0, figures, 0, END_FIGURES);
+    END_FIGURES
 }
 
 // The number of a refusal, and 0 where the answer is none.
@@ -137,12 +134,12 @@ fn last_of(last: Last) -> u32
 pub extern "C" fn lupin_answer(log: &[u8]) -> u32
     ensures { λ r. ⌜ r ≡ answerOf (now (log .entry)) ⌝ }
 {
-    let ran = step::run(Section::fresh(), log, log.len());
-    let last = ran.last;
+    let end = step::ended(log);
+    let last = end.last;
     last_of(last)
 }
 
-// How many entries of a log are taken by its reader: whole, of a known kind, with the right map and the fields in range. A log of any length is read, and nothing is stepped.
+// How many entries of a log are taken by its reader: whole, of a known kind, with the right map and the fields in range. A log of any length is read.
 #[no_mangle]
 pub extern "C" fn lupin_taken(log: &[u8]) -> usize
     ensures { λ r. ⌜ r ≡ takenIn (turnsOf fresh (now (log .entry))) ⌝ }

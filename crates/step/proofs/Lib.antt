@@ -1,10 +1,11 @@
 pub mod Advancing
+pub mod Becoming
 pub mod Ending
 pub mod Examples
 pub mod Filling
 pub mod LastLine
 pub mod Next
+pub mod Own
 pub mod Room
 pub mod Said
-pub mod Scans
 pub mod Whole

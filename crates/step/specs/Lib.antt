@@ -1,6 +1,5 @@
-pub mod Acts
 pub mod Blocks
+pub mod Entering
 pub mod Lines
 pub mod Listings
 pub mod Running
-pub mod Words

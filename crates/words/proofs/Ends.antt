@@ -1,126 +1,145 @@
--- The ends of the line among the places: the vehicle nearest a station, and the places after one has entered or left there, or two have met.
--- Each law goes by the station, A at the first place and B at the last used; the words then hold the section of the new line.
+-- A vehicle enters or leaves at a station's end, or has met another: the words stored are those of the line after it.
 -- Assumes nothing.
-use Prim.Native.Nat.{_+_, _-_, _<_, _≤_, min, suc, ℕ}
-use Rattle.words.proofs.Packing.{one-back}
-use Rattle.words.proofs.Pads.{pad-cons, pad-set, pad-snoc, pad-tail}
-use Rattle.section.proofs.Passes.{take-present}
-use Rattle.words.specs.Words.{sectionIn, vehiclesIn}
-use Rattle.working.proofs.Made.{line-with}
-use Rattle.working.proofs.Meeting.{turn-length, turn-set}
-use Rattle.working.specs.Sections.{emptied, freshDesk, insertAt, nearestAt, padTo, removeAt, unused, withDesk, withLine}
-use Rattle.working.specs.Steps.{metAt, turnAt, turned}
-use Rattle.working.specs.WellMade.{oneIf}
-use Rattle.working.specs.declared.Station.{Station}
+use Prim.Native.Nat.{_%_, _*_, _+_, _-_, _<_, _≤_, ℕ}
+use Rattle.words.proofs.Becoming.{becomes-as}
+use Rattle.words.proofs.Lines.{Stored, line-at, line-becomes, line-fits, line-length, line-of, pad-any, slot-at}
+use Rattle.words.proofs.Packing.{vehicle-back}
+use Rattle.words.proofs.Ring.{Moves, enters-moves, leaves-moves, remove-length, turns-moves}
+use Rattle.words.proofs.Slots.{slot-second}
+use Rattle.words.specs.Words.{Becomes, LineBecomes, StartMoved, VehiclePut, bySlot, endSlot, firstWord, inSlot, lineIn, movementIn, presentIn, ringAt, ringIn, secondWord, sectionIn, slots, startIn, startOn, startWord, vehicleAt, wordCount, wordsOf}
+use Rattle.working.proofs.Line.{insert-length}
+use Rattle.working.proofs.Meeting.{turn-length}
+use Rattle.working.specs.Sections.{insertAt, numberAt, padTo, removeAt, unused, withLine}
+use Rattle.working.specs.Steps.{turnAt, turned}
 use Rattle.working.specs.declared.Station.the-variants.{A, B}
+use Rattle.working.specs.declared.Station.{Station}
 use Rattle.working.specs.declared.Vehicle.{Vehicle}
-use lib.ListN.{drop, getD, length, length-append, length-drop, length-take, set, take}
-use lib.Seq.{getD-take, length-take-le, set-out, take-take}
-use mathlib.Core.Bool.{Bool}
-use mathlib.Core.List.{List, [], _∷_}
-use mathlib.Core.Path.{_∙_, _≡_, ap, ap₂, refl, sym}
-use native.Mathlib.Numerals.{add-one}
+use lib.ListN.{getD, length, length-set, set}
+use lib.Seq.{getD-drop, getD-set-other, set-getD}
+use mathlib.Core.List.{List}
+use mathlib.Core.Path.{_∙_, _≡_, ap, ap₂, refl, subst, sym}
 use native.Mathlib.Omega.{arith}
 
--- of the first `len` of 24 places there are so many
-pub line-length : (places : List Vehicle) (len : ℕ) → length places ≡ 24 → length (take len places) ≡ min len 24
-line-length places len long = length-take len places ∙ ap (min len) long
+-- ---- the ring's start, with the length stored before it
 
-pub near-none : (x : Station) (l : List Vehicle) → length l ≡ 0 → nearestAt x l ≡ unused
-near-none A [] e = refl
-near-none B [] e = refl
-near-none x (v ∷ l) e = absurd (omega arith)
+module _ (w : List ℕ) (n : ℕ) where
+  start-word : getD (set w 0 n) 3 0 ≡ getD w 3 0
+  start-word = getD-set-other w 0 3 n 0 (λ e. omega arith)
 
-pub near-first : (places : List Vehicle) (len : ℕ) → length places ≡ 24 → 0 < min len 24 → getD places 0 unused ≡ nearestAt A (take len places)
-near-first places len long some = sym (getD-take len places 0 unused (omega arith))
+  start-kept : startIn (set w 0 n) ≡ startIn w
+  start-kept = ap (λ k. k % slots) start-word
 
-pub near-last : (places : List Vehicle) (len : ℕ) → length places ≡ 24 → 0 < min len 24 → getD places (min len 24 - 1) unused ≡ nearestAt B (take len places)
-near-last places len long some = rw (line-length places len long) (sym (getD-take len places (min len 24 - 1) unused (omega arith)))
+  moved-start : (x : Station) (m : ℕ) → startWord x m (set w 0 n) % slots ≡ startOn x (startIn w) m
+  moved-start A m = ap (λ k. (k + m) % slots % slots) start-kept ∙ omega arith
+  moved-start B m = start-kept
 
--- ---- the line after one has entered or left
+  own-start : (x : Station) (m : ℕ) → w ≡ wordsOf (sectionIn w) (startIn w) → startWord x m (set w 0 n) ≡ startOn x (startIn w) m
+  unfolding wordsOf
+  own-start A m e = ap (λ k. (k + m) % slots) start-kept
+  own-start B m e = start-word ∙ ap (λ u. getD u 3 0) e
 
--- the places are those of the line l, of n vehicles
-abbrev pub Hold : List Vehicle → ℕ → List Vehicle → Type 0
-Hold places n l = (places ≡ padTo 24 l) × (n ≡ length l)
+start-less : (x : Station) (w : List ℕ) (m : ℕ) → startOn x (startIn w) m < slots
+start-less A w m = omega arith
+start-less B w m = omega arith
 
--- so the section whose words they are, with n stored as its length
-pub relined : (line figures after : List ℕ) (l : List Vehicle) {n : ℕ} → length figures ≡ 21 → Hold (vehiclesIn after) n l
-    → sectionIn after (set figures 0 n) ≡ withLine (sectionIn line figures) l
-unfolding sectionIn
-relined line [] after l some h = absurd (omega arith)
-relined line (w ∷ figures) after l some h = rw (h .0, h .1)
+-- what is stored at an end
+end-stored : (x : Station) (m : ℕ) (w : List ℕ) {n slot there : ℕ} {moved after : List ℕ} {v : Vehicle}
+    → StartMoved (set w 0 n) moved x m slot there → VehiclePut moved after slot v → Stored w after slot v n (startOn x (startIn w) m)
+end-stored x m w {n} {slot} {there} {moved} {after} {v} start put = record {
+  first = firstWord v;
+  second = secondWord v;
+  word = startWord x m (set w 0 n);
+  long = sym (length-set w 0 n) ∙ sym (length-set (set w 0 n) 3 (startWord x m (set w 0 n))) ∙ ap length (sym (start .stored)) ∙ put .long;
+  stored = put .stored ∙ ap (λ u. inSlot u slot (firstWord v) (secondWord v)) (start .stored);
+  vehicle = put .back;
+  begins = moved-start w n x m;
+  own = λ e. (refl, refl, own-start w n x m e);
+}
 
--- no vehicle, and both desks as fresh
-pub emptied-in : (line figures after : List ℕ) (force : Bool) → length figures ≡ 21 → vehiclesIn after ≡ padTo 24 []
-    → withDesk (withDesk (sectionIn after (set (set figures 0 0) 1 (oneIf force))) A freshDesk) B freshDesk ≡ emptied force (sectionIn line figures .refused)
-unfolding sectionIn
-emptied-in line [] after force some h = absurd (omega arith)
-emptied-in line (w ∷ []) after force some h = absurd (omega arith)
-emptied-in line (w ∷ u ∷ figures) after force some h = rw (h, one-back force)
+-- ---- the acts
 
-module _ (places : List Vehicle) (len : ℕ) (long : length places ≡ 24) {n : ℕ} (present : n ≡ min len 24) where
-  first-n : take n places ≡ take len places
-  first-n = rw present (take-present places len 24 long)
+-- the line of the section is that in the words
+as-line : (w : List ℕ) {after : List ℕ} (f : List Vehicle → List Vehicle) (start : ℕ → ℕ)
+    → Becomes w after (withLine (sectionIn w) (f (lineIn w))) (start (startIn w)) → LineBecomes w after f start
+as-line w f start b = becomes-as b (ap (λ l. withLine (sectionIn w) (f l)) (sym (line-of w))) refl
 
-  n-present : length (take len places) ≡ n
-  n-present = line-length places len long ∙ sym present
+pub insert-becomes : (x : Station) (v : Vehicle) (w : List ℕ) {n slot : ℕ} {moved after : List ℕ} → n ≡ presentIn w
+    → StartMoved (set w 0 (n + 1)) moved x 31 slot (endSlot x (startOn x (startIn (set w 0 (n + 1))) 31) n) → VehiclePut moved after slot v
+    → LineBecomes w after (insertAt x v) (λ start. startOn x start 31)
+insert-becomes x v w {n} {slot} size start put =
+    let l = lineIn w in
+    let here : endSlot x (startOn x (startIn w) 31) (length l) ≡ slot =
+    sym (start .at ∙ ap₂ (λ k i. endSlot x (startOn x k 31) i) (start-kept w (n + 1)) (size ∙ sym (line-length w))) in
+    let moves = subst (λ i. Moves (startIn w) l i v (startOn x (startIn w) 31) (insertAt x v l)) here (enters-moves (startIn w) l (omega arith) (line-fits w) x v) in
+    as-line w (insertAt x v) (λ k. startOn x k 31)
+    (line-becomes slot v (startOn x (startIn w) 31) (insertAt x v l) (start .inside) (start-less x w 31) w (end-stored x 31 w start put) (omega (arith, insert-length x v l, line-length w)) moves)
 
-  pub enters-A : (v : Vehicle) {line after : List Vehicle} → line ≡ padTo 24 (take n places) → after ≡ padTo 24 (v ∷ line) → Hold after (n + 1) (insertAt A v (take len places))
-  enters-A v {line} e f = (
-    f ∙ ap (λ (t : List Vehicle). padTo 24 (v ∷ t)) (e ∙ ap (padTo 24) first-n) ∙ pad-cons v (take len places) (omega (arith, n-present)),
-    omega (arith, n-present),
-  )
+pub remove-becomes : (x : Station) (w : List ℕ) {n slot : ℕ} {moved after : List ℕ} → n ≡ presentIn w - 1
+    → StartMoved (set w 0 n) moved x 1 slot (endSlot x (startIn (set w 0 n)) n) → VehiclePut moved after slot unused
+    → LineBecomes w after (removeAt x) (λ start. startOn x start 1)
+remove-becomes x w {n} {slot} size start put =
+    let l = lineIn w in
+    let count : n ≡ length l - 1 = omega (arith, line-length w) in
+    let here : endSlot x (startIn w) (length l - 1) ≡ slot = sym (start .at ∙ ap₂ (endSlot x) (start-kept w n) count) in
+    let moves = subst (λ i. Moves (startIn w) l i unused (startOn x (startIn w) 1) (removeAt x l)) here (leaves-moves (startIn w) l (omega arith) (line-fits w) x) in
+    as-line w (removeAt x) (λ k. startOn x k 1)
+    (line-becomes slot unused (startOn x (startIn w) 1) (removeAt x l) (start .inside) (start-less x w 1) w (end-stored x 1 w start put) (omega (arith, remove-length x l)) moves)
 
-  pub enters-B : (v : Vehicle) {line after : List Vehicle} → line ≡ padTo 24 (take n places) → after ≡ set line n v → Hold after (n + 1) (insertAt B v (take len places))
-  enters-B v {line} e f = (
-    f ∙ ap₂ (λ (t : List Vehicle) (k : ℕ). set t k v) (e ∙ ap (padTo 24) first-n) (sym n-present) ∙ pad-snoc 24 (take len places) v,
-    omega (arith, n-present, length-append (take len places) (v ∷ [])),
-  )
+-- ---- one has met another: its first word alone is stored
 
-  pub leaves-A : {line after : List Vehicle} {left : ℕ} → line ≡ padTo 24 (take n places) → after ≡ padTo 24 (drop 1 line) → left ≡ n - 1 → Hold after left (removeAt A (take len places))
-  leaves-A {line} e f g = (
-    f ∙ ap (λ (t : List Vehicle). padTo 24 (drop 1 t)) (e ∙ ap (padTo 24) first-n) ∙ pad-tail (take len places) (omega (arith, n-present)),
-    omega (arith, n-present, length-drop 1 (take len places)),
-  )
+number-most : (x : Station) → numberAt x ≤ 2
+number-most A = omega arith
+number-most B = omega arith
 
-  pub leaves-B : {after : List Vehicle} {left : ℕ} → after ≡ padTo 24 (take left places) → left ≡ n - 1 → Hold after left (removeAt B (take len places))
-  leaves-B {after} {left} f g =
-      let l = take len places in
-      let count : length l - 1 ≡ left = omega (arith, n-present) in
-      let rest : take (length l - 1) l ≡ take left places = rw count (take-take left len places (omega arith)) in
-      (f ∙ ap (padTo 24) (sym rest), sym (length-take-le (length l - 1) l (omega arith) ∙ count))
+module _ (x : Station) (i : ℕ) (w : List ℕ) {n slot : ℕ} (size : n ≡ presentIn w) (here : i < presentIn w) (at : slot ≡ (startIn w + i) % slots) where
+  -- the words of the start and of what the vehicle left on are as they were
+  first-stored : (first : ℕ) → set (set w 0 n) (ringAt + 2 * slot) first ≡ inSlot (set (set w 0 n) 3 (getD w 3 0)) slot first (getD w (ringAt + (2 * slot + 1)) 0)
+  first-stored first =
+      let u : List ℕ = set w 0 n in
+      let p : ℕ = ringAt + 2 * slot in
+      let q : ℕ = ringAt + (2 * slot + 1) in
+      let start : set u 3 (getD w 3 0) ≡ u = ap (set u 3) (sym (start-word w n)) ∙ set-getD u 3 0 in
+      let word : getD (set u p first) q 0 ≡ getD w q 0 = getD-set-other u p q first 0 (λ e. omega arith) ∙ getD-set-other w 0 q n 0 (λ e. omega arith) in
+      sym (ap (λ t. set (set t p first) q (getD w q 0)) start ∙ ap (set (set u p first) q) (sym word) ∙ set-getD (set u p first) q 0)
 
--- ---- and after two have met
+  second-word : getD w (ringAt + (2 * slot + 1)) 0 ≡ getD (ringIn w) (2 * slot + 1) 0
+  second-word = sym (getD-drop ringAt w (2 * slot + 1) 0)
 
-pub turn-past : (x : Station) (i : ℕ) (l : List Vehicle) → length l ≤ i → turnAt x i l ≡ l
-turn-past x i l h = turn-set x i l ∙ set-out l i (turned x (getD l i unused)) h
+  in-line : getD (lineIn w) i unused ≡ vehicleAt (ringIn w) slot
+  in-line = line-at w i here ∙ ap (vehicleAt (ringIn w)) (sym at)
 
--- the vehicle at place i of the line is turned
-pub turned-there : (x : Station) (l : List Vehicle) (i : ℕ) → length l ≤ 24 → i < length l
-    → set (padTo 24 l) i (turned x (getD (padTo 24 l) i unused)) ≡ padTo 24 (turnAt x i l)
-turned-there x l i fits less =
-    let here : getD (padTo 24 l) i unused ≡ getD l i unused =
-    sym (getD-take (length l) (padTo 24 l) i unused less) ∙ ap (λ (t : List Vehicle). getD t i unused) (line-with 24 l fits) in
-    rw here (pad-set 24 l i (turned x (getD l i unused)) less ∙ ap (padTo 24) (sym (turn-set x i l)))
+  -- in a section's own words it is the vehicle's own
+  own-second : w ≡ wordsOf (sectionIn w) (startIn w) → getD (ringIn w) (2 * slot + 1) 0 ≡ secondWord (vehicleAt (ringIn w) slot)
+  unfolding wordsOf sectionIn
+  own-second e =
+      let place : (slots - startIn w + slot) % slots ≡ i = omega arith in
+      ap (λ u. getD (ringIn u) (2 * slot + 1) 0) e ∙ slot-second (bySlot (padTo 24 (lineIn w)) (startIn w)) slot
+      ∙ ap secondWord
+      (slot-at (padTo 24 (lineIn w)) (startIn w) slot (omega arith) ∙ pad-any 24 (lineIn w) _ (line-fits w) ∙ ap (λ k. getD (lineIn w) k unused) place ∙ in-line)
 
-module _ (places : List Vehicle) (len : ℕ) (long : length places ≡ 24) {n : ℕ} (present : n ≡ min len 24) (x : Station) (i : ℕ) where
-  met-length : length (metAt x i (take len places)) ≡ n
-  met-length = turn-length x (suc i) (turnAt x i (take len places)) ∙ turn-length x i (take len places) ∙ n-present places len long present
+  module _ (long : length w ≡ wordCount) {after : List ℕ} (store : after ≡ set (set w 0 n) (ringAt + 2 * slot) (firstWord (turned x (vehicleAt (ringIn w) slot)))) where
+    met-stored : Stored w after slot (turned x (vehicleAt (ringIn w) slot)) n (startIn w)
+    unfolding wordsOf
+    met-stored =
+        let v = turned x (vehicleAt (ringIn w) slot) in
+        let heads : numberAt x < 256 = omega (arith, number-most x) in
+        record {
+          first = firstWord v;
+          second = getD w (ringAt + (2 * slot + 1)) 0;
+          word = getD w 3 0;
+          long = long;
+          stored = store ∙ first-stored (firstWord v);
+          vehicle = vehicle-back v (getD w (ringAt + (2 * slot + 1)) 0) (ap movementIn second-word) (omega arith) (omega arith) heads (omega arith);
+          begins = refl;
+          own = λ e. (refl, second-word ∙ own-second e, ap (λ u. getD u 3 0) e);
+        }
 
-  -- there is no vehicle at place i
-  pub meets-none : {after : List Vehicle} → n ≤ i → after ≡ padTo 24 (take n places) → Hold after n (metAt x i (take len places))
-  meets-none past e =
-      let l = take len places in
-      let size = n-present places len long present in
-      let first : turnAt x i l ≡ l = turn-past x i l (omega arith) in
-      let both : metAt x i l ≡ l = ap (turnAt x (suc i)) first ∙ turn-past x (suc i) l (omega arith) in
-      (e ∙ ap (padTo 24) (first-n places len long present ∙ sym both), sym met-length)
-
-  pub meets-two : {first both : List Vehicle} → first ≡ padTo 24 (turnAt x i (take n places)) → both ≡ padTo 24 (turnAt x (i + 1) (take n first)) → Hold both n (metAt x i (take len places))
-  meets-two {first} e f =
-      let l = take len places in
-      let turn : length (turnAt x i l) ≡ n = turn-length x i l ∙ n-present places len long present in
-      let line : take n first ≡ turnAt x i l =
-      ap (take n) (e ∙ ap (λ (t : List Vehicle). padTo 24 (turnAt x i t)) (first-n places len long present))
-      ∙ ap (λ (k : ℕ). take k (padTo 24 (turnAt x i l))) (sym turn) ∙ line-with 24 (turnAt x i l) (omega arith) in
-      (f ∙ ap₂ (λ (k : ℕ) (t : List Vehicle). padTo 24 (turnAt x k t)) (add-one i) line, sym met-length)
+    pub met-becomes : LineBecomes w after (turnAt x i) (λ start. start)
+    met-becomes =
+        let l = lineIn w in
+        let v = turned x (vehicleAt (ringIn w) slot) in
+        let count : n ≡ length (turnAt x i l) = omega (arith, turn-length x i l, line-length w) in
+        let moves : Moves (startIn w) l slot v (startIn w) (turnAt x i l) =
+        subst (λ u. Moves (startIn w) l slot (turned x u) (startIn w) (turnAt x i l)) in-line
+        (rw at (turns-moves (startIn w) l (omega arith) (line-fits w) x i (omega (arith, line-length w)))) in
+        as-line w (turnAt x i) (λ k. k) (line-becomes slot v (startIn w) (turnAt x i l) (omega arith) (omega arith) w met-stored count moves)

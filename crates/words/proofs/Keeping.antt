@@ -1,40 +1,59 @@
--- A section put into words and read off them: a line is filled place by place, each word standing for the vehicle at its place, and then
--- the words stand for the whole line; the other figures come back because each is in range of its type.
+-- A section put into words: the words of an empty one, then each vehicle of the line entered at B's end, then the desks; at each step they are the own words of
+-- the section so far. And the places read off them, one after another.
 -- Assumes nothing.
-use Prim.Native.Nat.{_+_, _<_, ℕ}
-use Rattle.words.proofs.Mapping.{place-at, places-length}
+use Prim.Native.Nat.{_+_, _<_, _≤_, min, suc, zero, ℕ}
+use Rattle.section.proofs.Passes.{take-present}
+use Rattle.words.proofs.Becoming.{becomes-as, desk-length, own-then}
 use Rattle.words.proofs.Packing.{one-back}
-use Rattle.words.specs.Words.{sectionIn, vehicleIn, vehiclesIn}
-use Rattle.working.specs.Sections.{unused, withDesk}
+use Rattle.words.specs.Words.{DeskBecomes, LineBecomes, OwnWords, bySlot, ringAt, sectionIn, slotWords, startIn, startOn, wordCount, wordsOf}
+use Rattle.working.proofs.Made.{line-with}
+use Rattle.working.specs.Sections.{emptied, insertAt, lineOf, padTo, unused, withDesk, withLine}
 use Rattle.working.specs.WellMade.{oneIf}
+use Rattle.working.specs.declared.Desk.{Desk}
 use Rattle.working.specs.declared.Section.{Section}
 use Rattle.working.specs.declared.Station.the-variants.{A, B}
+use Rattle.working.specs.declared.Station.{Station}
 use Rattle.working.specs.declared.Vehicle.{Vehicle}
-use borrow.Author.Count.{below-more}
-use lib.ListN.{getD, length, replicate, set}
-use lib.Seq.{ext-getD, getD-set-other, getD-set-same}
-use mathlib.Core.List.{List}
-use mathlib.Core.Path.{_∙_, _≡_}
+use lib.ListN.{getD, length, length-append, replicate, set, take}
+use lib.Seq.{length-take-le, take-suc}
+use mathlib.Core.Bool.{Bool}
+use mathlib.Core.List.{List, [], _++_, _∷_}
+use mathlib.Core.Path.{_∙_, _≡_, ap, refl, sym}
 use native.Mathlib.Nat.{mod-eq-of-lt}
+use native.Mathlib.Numerals.{add-one}
 use native.Mathlib.Omega.{arith}
 
--- what holds of each element below place i, and of what is stored there, holds of each below the next
-pub stored-more : {X : Type 0} (P : ℕ → X → Type 0) (xs : List X) (i : ℕ) (x d : X) → i < length xs
-    → ((k : ℕ) → k < i → P k (getD xs k d)) → P i x → (k : ℕ) → k < i + 1 → P k (getD (set xs i x) k d)
-stored-more P xs i x d less each here =
-    below-more (λ k. P k (getD (set xs i x) k d)) i
-    (λ k h. rw (getD-set-other xs i k x d (λ e. omega arith)) (each k h))
-    (rw (getD-set-same xs i x d less) here)
+pub own-emptied : (force : Bool) (count : ℕ) → count < 4294967296 → OwnWords (set (set (replicate wordCount 0) 1 (oneIf force)) 2 count) (emptied force count)
+unfolding sectionIn wordsOf slotWords bySlot padTo
+own-emptied force count fits = record { section = rw (one-back force, mod-eq-of-lt fits); start = refl; words = refl; fits = omega arith }
 
--- words that stand, each, for the vehicle at its place stand for the whole line
-pub line-back : (line : List ℕ) (places : List Vehicle) → length line ≡ length places
-    → ((k : ℕ) → k < length line → vehicleIn (getD line k 0) ≡ getD places k unused) → vehiclesIn line ≡ places
-line-back line places long each =
-    ext-getD unused (vehiclesIn line) places (places-length line ∙ long)
-    (λ k h. place-at line k ∙ each k (rw (places-length line) at h))
+-- one more vehicle of a line
+pub own-next : {w after : List ℕ} (s : Section) (places : List Vehicle) (i : ℕ) → OwnWords w (withLine s (take i places)) → i < 24 → length places ≡ 24
+    → LineBecomes w after (insertAt B (getD places i unused)) (λ start. startOn B start 31) → OwnWords after (withLine s (take (i + 1) places))
+own-next {w} {after} s places i own less long b =
+    let l = take i places in
+    let v = getD places i unused in
+    let size : length l ≡ i = length-take-le i places (omega arith) in
+    let fits : length l ≤ 24 = omega arith in
+    let entered : OwnWords after (withLine s (insertAt B v l)) =
+    own-then own
+    (becomes-as b (ap (λ z. withLine z (insertAt B v (lineOf z))) (own .section) ∙ ap (λ t. withLine s (insertAt B v t)) (line-with 24 l fits)) refl)
+    (omega (arith, length-append l (v ∷ []))) in
+    rw (add-one i, take-suc places i unused (omega arith)) entered
 
--- a section put word by word into nothing, then its desks
-pub figures-back : (line : List ℕ) (s : Section) → vehiclesIn line ≡ s .vehicles → s .refused < 4294967296
-    → withDesk (withDesk (sectionIn line (set (set (set (replicate 21 0) 0 (s .len)) 1 (oneIf (s .force))) 2 (s .refused))) A (s .a)) B (s .b) ≡ s
-unfolding sectionIn
-figures-back line s e less = rw (e, one-back (s .force), mod-eq-of-lt less)
+-- a desk
+pub own-desk : {w after : List ℕ} {s : Section} (x : Station) (d : Desk) → OwnWords w s → DeskBecomes w after x (λ z. d) → OwnWords after (withDesk s x d)
+own-desk {w} {after} {s} x d own b = own-then own (becomes-as b (ap (λ z. withDesk z x d) (own .section)) refl) (omega (arith, desk-length s x d, own .fits))
+
+-- ---- the places read off
+
+pad-snoc : (n : ℕ) (l : List Vehicle) (v : Vehicle) → set (padTo n l) (length l) v ≡ padTo n (l ++ v ∷ [])
+unfolding padTo
+pad-snoc zero l v = refl
+pad-snoc (suc n) [] v = refl
+pad-snoc (suc n) (u ∷ l) v = ap (λ (t : List Vehicle). u ∷ t) (pad-snoc n l v)
+
+pub place-next : (l : List Vehicle) (i : ℕ) → i < length l → set (padTo 24 (take i l)) i (getD l i unused) ≡ padTo 24 (take (i + 1) l)
+place-next l i less =
+    rw (add-one i, take-suc l i unused less)
+    (ap (λ k. set (padTo 24 (take i l)) k (getD l i unused)) (sym (length-take-le i l (omega arith))) ∙ pad-snoc 24 (take i l) (getD l i unused))

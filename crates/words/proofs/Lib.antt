@@ -1,7 +1,9 @@
+pub mod Becoming
+pub mod Desks
 pub mod Ends
 pub mod Keeping
-pub mod Mapping
+pub mod Lines
 pub mod Packing
-pub mod Padding
-pub mod Pads
-pub mod Stored
+pub mod Ring
+pub mod Slots
+pub mod Written

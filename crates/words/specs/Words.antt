@@ -1,6 +1,22 @@
--- A section in words, as a run keeps it in lent memory: 24 words for the places, one to a vehicle, and 21 for all other figures.
-use Prim.Native.Nat.{_%_, _*_, _+_, _/_, suc, zero, ℕ}
+-- A section in words, as a run keeps it in lent memory:
+--
+--   word       | holds
+--   0          | the length of the line
+--   1          | 1 in force, else 0
+--   2          | entries refused
+--   3          | the ring's start: the slot of the vehicle nearest A
+--   4 to 12    | A's desk: clock, last, sent, interval (0 is none, else one more than the minute), out (1 or 0), guest, asked, holds, owes
+--   13 to 21   | B's desk, in the same order
+--   22 to 85   | the ring: 32 slots of two words; place i of the line is slot (start + i) % 32
+--
+-- A slot's first word, from its low end: form number (two bytes), sender, heading, met (1 or 0), class (a byte each).
+-- Its second word: what the vehicle left on (0 OPEN, 1 THROUGH, 2 RETURN, 3 TRAIN), granted, asked (a byte each). Two zeros are an unused place.
+use Prim.Native.Nat.{_%_, _*_, _+_, _-_, _/_, _<_, _≤_, min, suc, zero, ℕ}
+use Rattle.working.specs.Reasons.{findOf, mayMeet}
+use Rattle.working.specs.Sections.{deskOf, lineOf, padTo, unused, withDesk, withLine}
+use Rattle.working.specs.Steps.{metAt}
 use Rattle.working.specs.WellMade.{oneIf}
+use Rattle.working.specs.declared.Clears.{Clears}
 use Rattle.working.specs.declared.Desk.{Desk}
 use Rattle.working.specs.declared.Interval.the-variants.{Since, Stopped}
 use Rattle.working.specs.declared.Interval.{Interval}
@@ -11,11 +27,37 @@ use Rattle.working.specs.declared.Station.the-variants.{A, B}
 use Rattle.working.specs.declared.Station.{Station}
 use Rattle.working.specs.declared.Vehicle.{Vehicle}
 use lib.Dec.{eqb, ltb}
-use lib.ListN.{getD}
-use mathlib.Core.Bool.{cond}
-use mathlib.Core.List.{List, map}
+use lib.ListN.{drop, getD, length, set, take}
+use mathlib.Core.Bool.{Bool, cond, false, true}
+use mathlib.Core.List.{List, [], _++_, _∷_}
+use mathlib.Core.Path.{_≡_}
 
--- ---- a vehicle's word, from the low end: form number, sender, heading, class, met, what it left on, granted, asked
+-- ---- how many words
+
+abbrev pub deskLength : ℕ
+deskLength = 9
+
+-- where a station's words begin
+abbrev pub deskFrom : Station → ℕ
+deskFrom A = 4
+deskFrom B = 4 + deskLength
+
+abbrev pub slots : ℕ
+slots = 32
+
+-- where the ring begins, and how many words there are in all
+abbrev pub ringAt : ℕ
+ringAt = 4 + 2 * deskLength
+
+abbrev pub wordCount : ℕ
+wordCount = ringAt + 2 * slots
+
+-- n words from one on
+abbrev pub wordsFrom : ℕ → ℕ → List ℕ → List ℕ
+wordsFrom i zero w = []
+wordsFrom i (suc n) w = getD w i 0 ∷ wordsFrom (i + 1) n w
+
+-- ---- a vehicle in two words
 
 -- what a vehicle left on, by number, with asked and granted
 abbrev pub leftOn : ℕ → ℕ → ℕ → Movement
@@ -25,33 +67,81 @@ leftOn (suc (suc zero)) asked granted = Return asked granted
 leftOn (suc (suc (suc n))) asked granted = Train asked granted
 
 abbrev pub movementIn : ℕ → Movement
-movementIn w = leftOn (w % 4) (w / 4 / 256 % 256) (w / 4 % 256)
+movementIn second = leftOn (second % 256) (second / 65536 % 256) (second / 256 % 256)
 
-abbrev pub vehicleIn : ℕ → Vehicle
-vehicleIn w = record {
-  movement = movementIn (w / 65536 / 256 / 256 / 256 / 2);
-  sender = w / 65536 % 256;
-  form = w % 65536;
-  heading = w / 65536 / 256 % 256;
-  met = eqb (w / 65536 / 256 / 256 / 256 % 2) 1;
-  class = w / 65536 / 256 / 256 % 256;
+abbrev pub vehicleIn : ℕ → ℕ → Vehicle
+vehicleIn first second = record {
+  movement = movementIn second;
+  sender = first / 65536 % 256;
+  form = first % 65536;
+  heading = first / 16777216 % 256;
+  met = eqb (first / 4294967296 % 256) 1;
+  class = first / 1099511627776 % 256;
 }
 
+abbrev pub firstWord : Vehicle → ℕ
+firstWord v = v .form + v .sender * 65536 + v .heading * 16777216 + oneIf (v .met) * 4294967296 + v .class * 1099511627776
+
+abbrev pub packed : ℕ → ℕ → ℕ → ℕ
+packed left asked granted = left + granted * 256 + asked * 65536
+
 abbrev pub movementWord : Movement → ℕ
-movementWord (Open asked) = asked * 256 * 4
-movementWord Through = 1
-movementWord (Return asked granted) = (asked * 256 + granted) * 4 + 2
-movementWord (Train asked granted) = (asked * 256 + granted) * 4 + 3
+movementWord (Open asked) = packed 0 asked 0
+movementWord Through = packed 1 0 0
+movementWord (Return asked granted) = packed 2 asked granted
+movementWord (Train asked granted) = packed 3 asked granted
 
-abbrev pub vehicleWord : Vehicle → ℕ
-vehicleWord v = ((((movementWord (v .movement) * 2 + oneIf (v .met)) * 256 + v .class) * 256 + v .heading) * 256 + v .sender) * 65536 + v .form
+abbrev pub secondWord : Vehicle → ℕ
+secondWord v = movementWord (v .movement)
 
-unfoldable pub vehiclesIn : List ℕ → List Vehicle
-vehiclesIn line = map vehicleIn line
+-- ---- the ring
 
--- ---- the other figures: length, in force, refused, and nine of each desk
+-- n vehicles round the ring, from one on
+abbrev pub round : (ℕ → Vehicle) → ℕ → ℕ → List Vehicle
+round at i zero = []
+round at i (suc n) = at (i % slots) ∷ round at (i + 1) n
 
--- 0 is none, else one more than the minute
+-- the vehicle in a slot of the ring, which lies behind all other words
+abbrev pub ringIn : List ℕ → List ℕ
+ringIn w = drop ringAt w
+
+abbrev pub vehicleAt : List ℕ → ℕ → Vehicle
+vehicleAt ring slot = vehicleIn (getD ring (2 * slot) 0) (getD ring (2 * slot + 1) 0)
+
+abbrev pub startIn : List ℕ → ℕ
+startIn w = getD w 3 0 % slots
+
+-- as many vehicles as there are places for
+abbrev pub presentIn : List ℕ → ℕ
+presentIn w = min (getD w 0 0) 24
+
+abbrev pub lineIn : List ℕ → List Vehicle
+lineIn w = round (vehicleAt (ringIn w)) (startIn w) (presentIn w)
+
+-- the places of a section slot by slot, the first of them in the slot at the start; past the places a slot is unused
+unfoldable pub bySlot : List Vehicle → ℕ → List Vehicle
+bySlot places start = round (λ i. getD places i unused) (slots - start) slots
+
+unfoldable pub slotWords : List Vehicle → List ℕ
+slotWords [] = []
+slotWords (v ∷ l) = firstWord v ∷ secondWord v ∷ slotWords l
+
+-- the ring's start moved n slots on at A's end, and left at B's (one back is 31 on); and the word that then holds it
+abbrev pub startOn : Station → ℕ → ℕ → ℕ
+startOn A start n = (start + n) % slots
+startOn B start n = start
+
+abbrev pub startWord : Station → ℕ → List ℕ → ℕ
+startWord A n w = (startIn w + n) % slots
+startWord B n w = getD w 3 0
+
+-- the slot at a station's end of a line from the start on, with so many others in the line
+abbrev pub endSlot : Station → ℕ → ℕ → ℕ
+endSlot A start others = start
+endSlot B start others = (start + others) % slots
+
+-- ---- a desk
+
 abbrev pub intervalIn : ℕ → Interval
 intervalIn zero = Stopped
 intervalIn (suc minute) = Since (minute % 65536)
@@ -60,36 +150,132 @@ abbrev pub intervalWord : Interval → ℕ
 intervalWord Stopped = 0
 intervalWord (Since minute) = minute + 1
 
--- where a station's nine begin; those of A and of B lie in turns
-abbrev pub firstOf : Station → ℕ
-firstOf A = 3
-firstOf B = 4
+abbrev pub deskRead : List ℕ → Desk
+deskRead t = record {
+  clock = getD t 0 0 % 65536;
+  last = getD t 1 0 % 65536;
+  sent = getD t 2 0 % 256;
+  interval = intervalIn (getD t 3 0);
+  out = eqb (getD t 4 0) 1;
+  guest = getD t 5 0 % 256;
+  clears = record { asked = getD t 6 0 % 256; holds = getD t 7 0 % 256; owes = getD t 8 0 % 256 };
+}
+
+abbrev pub deskWords : Desk → List ℕ
+deskWords d =
+    d .clock
+    ∷ d .last
+    ∷ d .sent
+    ∷ intervalWord (d .interval)
+    ∷ oneIf (d .out)
+    ∷ d .guest
+    ∷ d .clears .asked
+    ∷ d .clears .holds
+    ∷ d .clears .owes
+    ∷ []
+
+-- the words of a station's desk, and the desk that they stand for
+abbrev pub deskWordsIn : List ℕ → Station → List ℕ
+deskWordsIn w x = wordsFrom (deskFrom x) deskLength w
 
 abbrev pub deskIn : List ℕ → Station → Desk
-deskIn figures x = record {
-  clock = getD figures (firstOf x) 0 % 65536;
-  last = getD figures (firstOf x + 2) 0 % 65536;
-  sent = getD figures (firstOf x + 4) 0 % 256;
-  interval = intervalIn (getD figures (firstOf x + 6) 0);
-  out = eqb (getD figures (firstOf x + 8) 0) 1;
-  guest = getD figures (firstOf x + 10) 0 % 256;
-  asked = getD figures (firstOf x + 12) 0 % 256;
-  holds = getD figures (firstOf x + 14) 0 % 256;
-  owes = getD figures (firstOf x + 16) 0 % 256;
-}
+deskIn w x = deskRead (deskWordsIn w x)
 
 -- "a 32-bit count of refused entries that stops at its largest value"
 abbrev pub oneMore : ℕ → ℕ
 oneMore count = cond (ltb count 4294967295) (count + 1) count
 
--- ---- the section that two arrays of words hold
+-- ---- the section that words stand for, and the words of a section whose ring starts at a slot
 
-unfoldable pub sectionIn : List ℕ → List ℕ → Section
-sectionIn line figures = record {
-  vehicles = vehiclesIn line;
-  len = getD figures 0 0;
-  force = eqb (getD figures 1 0) 1;
-  refused = getD figures 2 0 % 4294967296;
-  a = deskIn figures A;
-  b = deskIn figures B;
+unfoldable pub sectionIn : List ℕ → Section
+sectionIn w = record {
+  vehicles = padTo 24 (lineIn w);
+  len = getD w 0 0;
+  force = eqb (getD w 1 0) 1;
+  refused = getD w 2 0 % 4294967296;
+  a = deskIn w A;
+  b = deskIn w B;
 }
+
+unfoldable pub wordsOf : Section → ℕ → List ℕ
+wordsOf s start = s .len ∷ oneIf (s .force) ∷ s .refused ∷ start ∷ deskWords (s .a) ++ deskWords (s .b) ++ slotWords (bySlot (s .vehicles) start)
+
+-- words that are a section's own, with the ring's start at the first slot
+pub record OwnWords (w : List ℕ) (s : Section) : Type 0 where
+  pub section : sectionIn w ≡ s
+  pub start : startIn w ≡ 0
+  pub words : w ≡ wordsOf s 0
+  pub fits : s .len ≤ 24
+
+-- ---- what a function makes of the words that it is lent
+
+-- They stand for a section, with the ring's start at a slot; and words that are some section's own become the words of that section.
+pub record Becomes (before after : List ℕ) (s : Section) (slot : ℕ) : Type 0 where
+  pub section : sectionIn after ≡ s
+  pub start : startIn after ≡ slot
+  pub own : s .len ≤ 24 → before ≡ wordsOf (sectionIn before) (startIn before) → after ≡ wordsOf s slot
+
+-- the words of a station's desk are altered, and no other
+pub record DeskPut (before after : List ℕ) (x : Station) (put : List ℕ → List ℕ) : Type 0 where
+  pub long : length before ≡ wordCount
+  pub same : length after ≡ length before
+  pub desk : deskWordsIn after x ≡ put (deskWordsIn before x)
+  pub ahead : take (deskFrom x) after ≡ take (deskFrom x) before
+  pub behind : drop (deskFrom x + deskLength) after ≡ drop (deskFrom x + deskLength) before
+
+-- the line alone is altered
+abbrev pub LineBecomes : List ℕ → List ℕ → (List Vehicle → List Vehicle) → (ℕ → ℕ) → Type 0
+LineBecomes before after f start = Becomes before after (withLine (sectionIn before) (f (lineOf (sectionIn before)))) (start (startIn before))
+
+-- a slot's two words are stored, and the vehicle comes back from its own
+abbrev pub inSlot : List ℕ → ℕ → ℕ → ℕ → List ℕ
+inSlot w slot first second = set (set w (ringAt + 2 * slot) first) (ringAt + (2 * slot + 1)) second
+
+pub record VehiclePut (before after : List ℕ) (slot : ℕ) (v : Vehicle) : Type 0 where
+  pub long : length before ≡ wordCount
+  pub stored : after ≡ inSlot before slot (firstWord v) (secondWord v)
+  pub back : vehicleIn (firstWord v) (secondWord v) ≡ v
+
+-- the ring's start is moved, and a slot is the one at a station's end
+pub record StartMoved (before after : List ℕ) (x : Station) (n slot there : ℕ) : Type 0 where
+  pub stored : after ≡ set before 3 (startWord x n before)
+  pub at : slot ≡ there
+  pub inside : slot < slots
+
+-- MEET, where the pair may meet
+abbrev pub metIf : Bool → Section → Station → ℕ → Section
+metIf true s x i = withLine s (metAt x i (lineOf s))
+metIf false s x i = s
+
+pub record Met (before after : List ℕ) (x sender : Station) (form : ℕ) (r : Bool) : Type 0 where
+  pub may : r ≡ mayMeet (lineOf (sectionIn before)) (findOf sender form (lineOf (sectionIn before)))
+  pub words : Becomes before after (metIf r (sectionIn before) x (findOf sender form (lineOf (sectionIn before)))) (startIn before)
+
+-- a station's desk alone is altered
+abbrev pub DeskBecomes : List ℕ → List ℕ → Station → (Desk → Desk) → Type 0
+DeskBecomes before after x f = Becomes before after (withDesk (sectionIn before) x (f (deskOf (sectionIn before) x))) (startIn before)
+
+-- a desk with the figures that an entry of its station alters, and with its others
+abbrev pub withEntered : ℕ → ℕ → ℕ → Interval → Desk → Desk
+withEntered clock last sent interval d =
+    record { clock = clock; last = last; sent = sent; interval = interval; out = d .out; guest = d .guest; clears = d .clears }
+
+abbrev pub withOthers : Bool → ℕ → Clears → Desk → Desk
+withOthers out guest clears d =
+    record { clock = d .clock; last = d .last; sent = d .sent; interval = d .interval; out = out; guest = guest; clears = clears }
+
+-- a departure takes a form number and starts the interval; a receipt stops it
+abbrev pub withDeparture : ℕ → ℕ → ℕ → Desk → Desk
+withDeparture time form sent = withEntered time form sent (Since time)
+
+abbrev pub withReceipt : ℕ → ℕ → Desk → Desk
+withReceipt time sent d = withEntered time (d .last) sent Stopped d
+
+abbrev pub withOut : Bool → Desk → Desk
+withOut out d = withOthers out (d .guest) (d .clears) d
+
+abbrev pub withGuest : ℕ → Desk → Desk
+withGuest guest d = withOthers (d .out) guest (d .clears) d
+
+abbrev pub withClears : Clears → Desk → Desk
+withClears clears d = withOthers (d .out) (d .guest) clears d

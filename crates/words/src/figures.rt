@@ -1,12 +1,13 @@
-// The figures of a section but for the line, in lent words: the length of the line, in force, refused, and nine words for each desk, in turns.
-// `let _ = &figures[..];` does nothing: seen as a slice, the array shows the proof how many its words are.
-ghost use Prim.Native.Nat.{_≤_, ℕ};
-ghost use Rattle.words.specs.Words.{firstOf, intervalIn, intervalWord, oneMore, sectionIn};
-ghost use Rattle.working.specs.Sections.{countRefusal, deskOf, withDesk};
-ghost use lib.Dec.{ltb};
-ghost use mathlib.Core.List.{List};
+// The figures of a section but for the line, in lent words: the length of the line, in force, refused, the ring's start, and nine words for each desk.
+ghost use Prim.Native.Nat.{_%_, _<_, _≤_};
+ghost use Rattle.words.specs.Words.{Becomes, DeskBecomes, DeskPut, deskWordsIn, deskFrom, intervalIn, intervalWord, oneMore, sectionIn, startIn, withClears, withDeparture, withGuest, withOut, withReceipt, withEntered};
+ghost use Rattle.working.specs.Sections.{countRefusal, deskOf};
+ghost use lib.ListN.{getD, set};
 ghost use mathlib.Core.Path.{_≡_};
+use crate::vehicles::BYTE;
+use crate::vehicles::TWO_BYTES;
 use crate::vehicles::word_if;
+use working::Clears;
 use working::Desk;
 use working::Interval;
 use working::Section;
@@ -18,41 +19,77 @@ pub(crate) const FORCE: usize = 1;
 
 pub(crate) const REFUSED: usize = 2;
 
-// The words of a desk: its clock, and so far behind it each other figure. Those of A and of B lie in turns.
-const LAST: usize = 2;
+pub(crate) const START: usize = 3;
 
-const SENT: usize = 4;
+const FIRST_DESK: usize = 4;
 
-const INTERVAL: usize = 6;
+// The words of a desk, in their order.
+const CLOCK: usize = 0;
 
-const OUT: usize = 8;
+const LAST: usize = 1;
 
-const GUEST: usize = 10;
+const SENT: usize = 2;
 
-const ASKED: usize = 12;
+const INTERVAL: usize = 3;
 
-const HOLDS: usize = 14;
+const OUT: usize = 4;
 
-const OWES: usize = 16;
+const GUEST: usize = 5;
+
+const ASKED: usize = 6;
+
+const HOLDS: usize = 7;
+
+const OWES: usize = 8;
 
 const DESK_LENGTH: usize = 9;
 
-// The three words above, and two desks.
-pub const FIGURES_LENGTH: usize = 3 + 2 * DESK_LENGTH;
+// The ring of vehicles lies behind the two desks.
+pub(crate) const RING: usize = FIRST_DESK + 2 * DESK_LENGTH;
 
-pub type FigureWords = [u64; FIGURES_LENGTH];
+pub(crate) const SLOTS: usize = 32;
+
+pub(crate) const SLOT_LENGTH: usize = 2;
+
+pub const WORDS: usize = RING + SLOT_LENGTH * SLOTS;
+
+pub type Words = [u64; WORDS];
 
 // One more than the largest count.
-pub(crate) const COUNTS: u64 = Section::MOST_REFUSED as u64 + 1;
+const COUNTS: u64 = Section::MOST_REFUSED as u64 + 1;
 
-// Where a station's words begin. A's and B's lie in turns, so that a word of either is reached by one sum.
-fn first_of(at: Station) -> usize
-    ensures { λ r. ⌜ (r ≡ firstOf at) × (r ≤ 4) ⌝ }
+// Where a station's words begin.
+fn desk_from(at: Station) -> usize
+    ensures { λ r. ⌜ (r ≡ deskFrom at) × (r ≤ 13) ⌝ }
 {
     match at {
-        Station::A => 3,
-        Station::B => 4,
+        Station::A => FIRST_DESK,
+        Station::B => FIRST_DESK + DESK_LENGTH,
     }
+}
+
+// A word of a desk.
+fn word_at(words: &Words, at: Station, figure: usize) -> u64
+    requires { ⌜ figure < 9 ⌝ }
+    ensures { λ r. ⌜ r ≡ getD (deskWordsIn (now (words .entry)) at) figure 0 ⌝ }
+{
+    words[desk_from(at) + figure]
+}
+
+// A figure of one byte.
+fn byte_at(words: &Words, at: Station, figure: usize) -> u8
+    requires { ⌜ figure < 9 ⌝ }
+    ensures { λ r. ⌜ r ≡ getD (deskWordsIn (now (words .entry)) at) figure 0 % 256 ⌝ }
+{
+    (word_at(words, at, figure) % BYTE) as u8
+}
+
+// A figure of two bytes.
+fn short_at(words: &Words, at: Station, figure: usize) -> u16
+    requires { ⌜ figure < 9 ⌝ }
+    ensures { λ r. ⌜ r ≡ getD (deskWordsIn (now (words .entry)) at) figure 0 % 65536 ⌝ }
+{
+    (word_at(words, at, figure) % TWO_BYTES) as u16
 }
 
 // 0 where no interval is running, else one more than the minute of the last departure.
@@ -71,43 +108,96 @@ fn interval_in(word: u64) -> Interval
     if word == 0 {
         return Interval::Stopped;
     }
-    Interval::Since(((word - 1) % 65536) as u16)
+    Interval::Since(((word - 1) % TWO_BYTES) as u16)
 }
 
 // The desk of a station.
-pub fn desk(figures: &FigureWords, at: Station) -> Desk
-    ensures { λ r. ⌜ ((l : List ℕ) → r ≡ deskOf (sectionIn l (now (figures .entry))) at) ⌝ }
+pub fn desk(words: &Words, at: Station) -> Desk
+    ensures { λ r. ⌜ r ≡ deskOf (sectionIn (now (words .entry))) at ⌝ }
 {
-    let first = first_of(at);
     Desk {
-        clock: (figures[first] % 65536) as u16,
-        last: (figures[first + LAST] % 65536) as u16,
-        sent: (figures[first + SENT] % 256) as u8,
-        interval: interval_in(figures[first + INTERVAL]),
-        out: figures[first + OUT] == 1,
-        guest: (figures[first + GUEST] % 256) as u8,
-        asked: (figures[first + ASKED] % 256) as u8,
-        holds: (figures[first + HOLDS] % 256) as u8,
-        owes: (figures[first + OWES] % 256) as u8,
+        clock: short_at(words, at, CLOCK),
+        last: short_at(words, at, LAST),
+        sent: byte_at(words, at, SENT),
+        interval: interval_in(word_at(words, at, INTERVAL)),
+        out: word_at(words, at, OUT) == 1,
+        guest: byte_at(words, at, GUEST),
+        clears: Clears {
+            asked: byte_at(words, at, ASKED),
+            holds: byte_at(words, at, HOLDS),
+            owes: byte_at(words, at, OWES),
+        },
     }
 }
 
-// The desk of a station is replaced.
-pub fn put_desk(figures: &mut FigureWords, at: Station, d: Desk)
-    ensures { λ _. ⌜ ((l : List ℕ) → sectionIn l (now (figures .exit)) ≡ withDesk (sectionIn l (now (figures .entry))) at d) ⌝ }
+// A word of a desk is replaced. Seen as a slice, the array shows the proof how many its words are.
+fn put(words: &mut Words, at: Station, figure: usize, word: u64)
+    requires { ⌜ figure < 9 ⌝ }
+    ensures { λ _. ⌜ DeskPut (now (words .entry)) (now (words .exit)) at (λ t. set t figure word) ⌝ }
 {
-    let _ = &figures[..];
-    let first = first_of(at);
+    let _ = &words[..];
+    words[desk_from(at) + figure] = word;
+}
+
+// The minute of the last entry, the last form number, the departures counted and the interval.
+fn put_entered(words: &mut Words, at: Station, clock: u16, last: u16, sent: u8, interval: Interval)
+    ensures { λ _. ⌜ DeskBecomes (now (words .entry)) (now (words .exit)) at (withEntered clock last sent interval) ⌝ }
+{
+    put(words, at, CLOCK, clock as u64);
+    put(words, at, LAST, last as u64);
+    put(words, at, SENT, sent as u64);
+    put(words, at, INTERVAL, interval_word(interval));
+}
+
+// What every departure alters: the minute, the form number, the departures counted; and the interval runs from that minute.
+pub fn put_departure(words: &mut Words, at: Station, time: u16, form: u16, sent: u8)
+    ensures { λ _. ⌜ DeskBecomes (now (words .entry)) (now (words .exit)) at (withDeparture time form sent) ⌝ }
+{
+    put_entered(words, at, time, form, sent, Interval::Since(time));
+}
+
+// What every receipt alters: the minute, the departures counted; and no interval is running.
+pub fn put_receipt(words: &mut Words, at: Station, time: u16, sent: u8)
+    ensures { λ _. ⌜ DeskBecomes (now (words .entry)) (now (words .exit)) at (withReceipt time sent) ⌝ }
+{
+    put(words, at, CLOCK, time as u64);
+    put(words, at, SENT, sent as u64);
+    put(words, at, INTERVAL, interval_word(Interval::Stopped));
+}
+
+// Whether the station's own opener is away.
+pub fn put_out(words: &mut Words, at: Station, out: bool)
+    ensures { λ _. ⌜ DeskBecomes (now (words .entry)) (now (words .exit)) at (withOut out) ⌝ }
+{
+    put(words, at, OUT, word_if(out));
+}
+
+// The class of the other station's opener standing here; 0 is none.
+pub fn put_guest(words: &mut Words, at: Station, guest: u8)
+    ensures { λ _. ⌜ DeskBecomes (now (words .entry)) (now (words .exit)) at (withGuest guest) ⌝ }
+{
+    put(words, at, GUEST, guest as u64);
+}
+
+// Trains enquired for and unanswered, line clears held and owed.
+pub fn put_clears(words: &mut Words, at: Station, c: Clears)
+    ensures { λ _. ⌜ DeskBecomes (now (words .entry)) (now (words .exit)) at (withClears c) ⌝ }
+{
+    put(words, at, ASKED, c.asked as u64);
+    put(words, at, HOLDS, c.holds as u64);
+    put(words, at, OWES, c.owes as u64);
+}
+
+// The whole desk.
+pub(crate) fn put_desk(words: &mut Words, at: Station, d: Desk)
+    ensures { λ _. ⌜ DeskBecomes (now (words .entry)) (now (words .exit)) at (λ _. d) ⌝ }
+{
     let interval = d.interval;
-    figures[first] = d.clock as u64;
-    figures[first + LAST] = d.last as u64;
-    figures[first + SENT] = d.sent as u64;
-    figures[first + INTERVAL] = interval_word(interval);
-    figures[first + OUT] = word_if(d.out);
-    figures[first + GUEST] = d.guest as u64;
-    figures[first + ASKED] = d.asked as u64;
-    figures[first + HOLDS] = d.holds as u64;
-    figures[first + OWES] = d.owes as u64;
+    let clears = d.clears;
+    put_entered(words, at, d.clock, d.last, d.sent, interval);
+    put_out(words, at, d.out);
+    put_guest(words, at, d.guest);
+    put_clears(words, at, clears);
 }
 
 // One more, up to the largest value.
@@ -121,25 +211,32 @@ fn one_more(count: u32) -> u32
     }
 }
 
-// One more entry is refused; the count stops at its largest value.
-pub fn count_refusal(figures: &mut FigureWords)
-    ensures { λ _. ⌜ ((l : List ℕ) → sectionIn l (now (figures .exit)) ≡ countRefusal (sectionIn l (now (figures .entry)))) ⌝ }
+// Entries refused.
+pub fn refused(words: &Words) -> u32
+    ensures { λ r. ⌜ r ≡ sectionIn (now (words .entry)) .refused ⌝ }
 {
-    let _ = &figures[..];
-    let count = (figures[REFUSED] % COUNTS) as u32;
-    figures[REFUSED] = one_more(count) as u64;
+    (words[REFUSED] % COUNTS) as u32
+}
+
+// One more entry is refused; the count stops at its largest value.
+pub fn count_refusal(words: &mut Words)
+    ensures { λ _. ⌜ Becomes (now (words .entry)) (now (words .exit)) (countRefusal (sectionIn (now (words .entry)))) (startIn (now (words .entry))) ⌝ }
+{
+    let _ = &words[..];
+    let count = one_more(refused(words));
+    words[REFUSED] = count as u64;
 }
 
 // Whether the working is in force.
-pub fn in_force(figures: &FigureWords) -> bool
-    ensures { λ r. ⌜ ((l : List ℕ) → r ≡ sectionIn l (now (figures .entry)) .force) ⌝ }
+pub fn in_force(words: &Words) -> bool
+    ensures { λ r. ⌜ r ≡ sectionIn (now (words .entry)) .force ⌝ }
 {
-    figures[FORCE] == 1
+    words[FORCE] == 1
 }
 
-// Whether a vehicle is present.
-pub fn any_present(figures: &FigureWords) -> bool
-    ensures { λ r. ⌜ ((l : List ℕ) → r ≡ ltb 0 (sectionIn l (now (figures .entry)) .len)) ⌝ }
+// The length of the line.
+pub fn present(words: &Words) -> usize
+    ensures { λ r. ⌜ r ≡ sectionIn (now (words .entry)) .len ⌝ }
 {
-    0 < figures[LEN]
+    words[LEN] as usize
 }

@@ -1,78 +1,81 @@
 // A section put into words, and read off them.
-ghost use Prim.Native.Nat.{ℕ};
-ghost use Rattle.words.specs.Words.{sectionIn, vehiclesIn};
-ghost use mathlib.Core.List.{List};
+ghost use Rattle.words.specs.Words.{OwnWords, lineIn, sectionIn};
+ghost use Rattle.working.specs.Sections.{emptied, fresh, lineOf, padTo, withLine};
+ghost use lib.ListN.{take};
 ghost use mathlib.Core.Path.{_≡_};
-use crate::figures::COUNTS;
-use crate::figures::FIGURES_LENGTH;
-use crate::figures::FORCE;
-use crate::figures::FigureWords;
-use crate::figures::LEN;
-use crate::figures::REFUSED;
+use crate::figures::Words;
 use crate::figures::desk;
+use crate::figures::in_force;
+use crate::figures::present;
 use crate::figures::put_desk;
-use crate::line::LINE_LENGTH;
-use crate::line::LineWords;
-use crate::vehicles::vehicle_in;
-use crate::vehicles::vehicle_word;
-use crate::vehicles::word_if;
+use crate::figures::refused;
+use crate::line::at_place;
+use crate::line::emptied_words;
+use crate::line::fitting;
+use crate::line::insert;
+use crate::line::present_in;
 use working::Section;
 use working::Station;
 use working::Vehicle;
 
-// The words of a section's line.
-pub fn line_words(s: Section) -> LineWords
-    ensures { λ r. ⌜ vehiclesIn r ≡ s .vehicles ⌝ }
+// The words of a fresh section.
+pub fn fresh_words() -> Words
+    ensures { λ r. ⌜ OwnWords r fresh ⌝ }
 {
-    let places = s.vehicles;
-    let mut line = [0; LINE_LENGTH];
+    emptied_words(false, 0)
+}
+
+// The words of a section with the first `len` of its places, and both desks as fresh.
+fn line_words(force: bool, count: u32, places: [Vehicle; Section::PLACES], len: usize) -> Words
+    ensures { λ r. ⌜ OwnWords r (withLine (emptied force count) (take len places)) ⌝ }
+{
+    let present = fitting(len);
+    let mut words = emptied_words(force, count);
     let mut i = 0;
-    while i < Section::PLACES {
-        line[i] = vehicle_word(places[i]);
+    while i < present {
+        insert(&mut words, Station::B, places[i]);
         i += 1;
     }
-    line
+    words
 }
 
-// The words of its other figures.
-pub fn figure_words(s: Section) -> FigureWords
-    ensures { λ r. ⌜ ((l : List ℕ) → vehiclesIn l ≡ s .vehicles → sectionIn l r ≡ s) ⌝ }
+// The words of a section, of which nothing but the vehicles present is kept.
+pub fn words_of(s: Section) -> Words
+    ensures { λ r. ⌜ OwnWords r (withLine s (lineOf s)) ⌝ }
 {
+    let places = s.vehicles;
     let a = s.a;
     let b = s.b;
-    let mut figures = [0; FIGURES_LENGTH];
-    figures[LEN] = s.len as u64;
-    figures[FORCE] = word_if(s.force);
-    figures[REFUSED] = s.refused as u64;
-    put_desk(&mut figures, Station::A, a);
-    put_desk(&mut figures, Station::B, b);
-    figures
+    let mut words = line_words(s.force, s.refused, places, s.len);
+    put_desk(&mut words, Station::A, a);
+    put_desk(&mut words, Station::B, b);
+    words
 }
 
-// The vehicles that the words of a line stand for. Seen as a slice, the array shows the proof how many its words are.
-fn vehicles_in(line: &LineWords) -> [Vehicle; Section::PLACES]
-    ensures { λ r. ⌜ r ≡ vehiclesIn (now (line .entry)) ⌝ }
+// The places that the words stand for: the line, and unused ones behind it.
+fn places_in(words: &Words) -> [Vehicle; Section::PLACES]
+    ensures { λ r. ⌜ r ≡ padTo 24 (lineIn (now (words .entry))) ⌝ }
 {
-    let _ = &line[..];
+    let present = present_in(words);
     let mut places = [Vehicle::unused(); Section::PLACES];
     let mut i = 0;
-    while i < Section::PLACES {
-        places[i] = vehicle_in(line[i]);
+    while i < present {
+        places[i] = at_place(words, i);
         i += 1;
     }
     places
 }
 
 // The section that the words stand for.
-pub fn section_in(line: &LineWords, figures: &FigureWords) -> Section
-    ensures { λ r. ⌜ r ≡ sectionIn (now (line .entry)) (now (figures .entry)) ⌝ }
+pub fn section_in(words: &Words) -> Section
+    ensures { λ r. ⌜ r ≡ sectionIn (now (words .entry)) ⌝ }
 {
     Section {
-        vehicles: vehicles_in(line),
-        len: figures[LEN] as usize,
-        force: figures[FORCE] == 1,
-        refused: (figures[REFUSED] % COUNTS) as u32,
-        a: desk(figures, Station::A),
-        b: desk(figures, Station::B),
+        vehicles: places_in(words),
+        len: present(words),
+        force: in_force(words),
+        refused: refused(words),
+        a: desk(words, Station::A),
+        b: desk(words, Station::B),
     }
 }

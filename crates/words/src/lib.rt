@@ -1,26 +1,27 @@
-// A section in lent words, where it can be altered without being copied: `LineWords`, a word to a place, and `FigureWords` for all else. specs/Words.antt says what section they stand for.
+// A section in lent words, where it can be altered without being copied. specs/Words.antt has the table, and says what section they stand for.
 // Each function is total: whatever the words, what it leaves stands for the section that a definition of `working` gives.
 mod figures;
 mod kept;
 mod line;
 mod vehicles;
 
-pub use figures::FIGURES_LENGTH;
-pub use figures::FigureWords;
-pub use figures::any_present;
+pub use figures::WORDS;
+pub use figures::Words;
 pub use figures::count_refusal;
 pub use figures::desk;
 pub use figures::in_force;
-pub use figures::put_desk;
-pub use kept::figure_words;
-pub use kept::line_words;
+pub use figures::present;
+pub use figures::put_clears;
+pub use figures::put_departure;
+pub use figures::put_guest;
+pub use figures::put_out;
+pub use figures::put_receipt;
+pub use figures::refused;
+pub use kept::fresh_words;
 pub use kept::section_in;
-pub use line::LINE_LENGTH;
-pub use line::LineWords;
+pub use kept::words_of;
 pub use line::empty;
-pub use line::find;
 pub use line::insert;
-pub use line::may_meet;
 pub use line::meet;
 pub use line::nearest;
 pub use line::remove;

@@ -1,42 +1,50 @@
-// The vehicles present, the first `len` of the section's places, in lent words: one enters or leaves at a station's end, and two meet. Behind them every place is
-// left unused, whatever stood there, so that each function is equal to its definition on any section.
-// `let _ = &line[..];` does nothing: seen as a slice, the array shows the proof how many its words are.
-ghost use Prim.Native.Nat.{_-_, _≤_, min};
-ghost use Rattle.words.specs.Words.{sectionIn, vehicleIn, vehiclesIn};
+// The vehicles present, in a ring of slots: one enters or leaves at a station's end, and two meet. No other vehicle is moved. What lies in a slot outside the line
+// stands for nothing; a slot is made unused when its vehicle leaves, so that a section has words of its own.
+ghost use Prim.Native.Nat.{_%_, _+_, _-_, _<_, _≤_, min};
+ghost use Rattle.words.specs.Words.{Becomes, LineBecomes, Met, OwnWords, StartMoved, VehiclePut, endSlot, lineIn, presentIn, ringIn, sectionIn, slots, startIn, startOn, vehicleAt};
 ghost use Rattle.working.specs.Reasons.{findOf, mayMeet};
-ghost use Rattle.working.specs.Sections.{emptied, insertAt, lineOf, nearestAt, padTo, removeAt, withLine};
-ghost use Rattle.working.specs.Steps.{metAt, turnAt, turned};
-ghost use lib.ListN.{drop, getD, length, set, take};
-ghost use mathlib.Core.Bool.{cond};
-ghost use mathlib.Core.List.{_∷_};
+ghost use Rattle.working.specs.Sections.{emptied, insertAt, lineOf, nearestAt, removeAt, unused};
+ghost use Rattle.working.specs.Steps.{turnAt, turned};
+ghost use lib.ListN.{getD};
 ghost use mathlib.Core.Path.{_≡_};
 use crate::figures::FORCE;
-use crate::figures::FigureWords;
 use crate::figures::LEN;
-use crate::figures::put_desk;
+use crate::figures::REFUSED;
+use crate::figures::RING;
+use crate::figures::SLOT_LENGTH;
+use crate::figures::SLOTS;
+use crate::figures::START;
+use crate::figures::WORDS;
+use crate::figures::Words;
+use crate::figures::refused;
+use crate::vehicles::first_word;
+use crate::vehicles::second_word;
 use crate::vehicles::vehicle_in;
-use crate::vehicles::vehicle_word;
 use crate::vehicles::word_if;
 use section::is_named;
 use section::is_opener;
 use section::station_number;
-use working::Desk;
 use working::Section;
 use working::Station;
 use working::Vehicle;
 
-// A word for each place.
-pub const LINE_LENGTH: usize = Section::PLACES;
+// So many slots on is one slot back.
+const ONE_BACK: usize = SLOTS - 1;
 
-pub type LineWords = [u64; LINE_LENGTH];
+// The words of a section with no vehicle and both desks as fresh.
+pub(crate) fn emptied_words(force: bool, count: u32) -> Words
+    ensures { λ r. ⌜ OwnWords r (emptied force count) ⌝ }
+{
+    let mut words = [0; WORDS];
+    words[FORCE] = word_if(force);
+    words[REFUSED] = count as u64;
+    words
+}
 
 // As many vehicles as there are places for.
-fn present_in(line: &LineWords, figures: &FigureWords) -> usize
-    ensures { λ r. ⌜ (r ≡ min (getD (now (figures .entry)) 0 0) 24) × (length (now (line .entry)) ≡ 24) × (length (now (figures .entry)) ≡ 21) ⌝ }
+pub(crate) fn fitting(len: usize) -> usize
+    ensures { λ r. ⌜ r ≡ min len 24 ⌝ }
 {
-    let _ = &line[..];
-    let _ = &figures[..];
-    let len = figures[LEN] as usize;
     if len < Section::PLACES {
         len
     } else {
@@ -44,69 +52,97 @@ fn present_in(line: &LineWords, figures: &FigureWords) -> usize
     }
 }
 
-// Every place from `from` on is made unused.
-fn blank(line: &mut LineWords, from: usize)
-    ensures { λ _. ⌜ vehiclesIn (now (line .exit)) ≡ padTo 24 (take from (vehiclesIn (now (line .entry)))) ⌝ }
+// How many vehicles are present.
+pub(crate) fn present_in(words: &Words) -> usize
+    ensures { λ r. ⌜ r ≡ presentIn (now (words .entry)) ⌝ }
 {
-    let _ = &line[..];
-    let mut i = from;
-    while i < Section::PLACES {
-        line[i] = 0;
-        i += 1;
-    }
+    fitting(words[LEN] as usize)
 }
 
-// A vehicle stands nearest A, and every other one place on towards B.
-fn put_first(line: &mut LineWords, word: u64)
-    ensures { λ _. ⌜ vehiclesIn (now (line .exit)) ≡ padTo 24 (vehicleIn word ∷ vehiclesIn (now (line .entry))) ⌝ }
+// The slot of the vehicle nearest A.
+fn start_in(words: &Words) -> usize
+    ensures { λ r. ⌜ r ≡ startIn (now (words .entry)) ⌝ }
 {
-    let _ = &line[..];
-    let mut next = word;
-    let mut i = 0;
-    while i < Section::PLACES {
-        let here = line[i];
-        line[i] = next;
-        next = here;
-        i += 1;
-    }
+    (words[START] % SLOTS as u64) as usize
 }
 
-// The vehicle nearest A is gone, and every other one place on towards A.
-fn drop_first(line: &mut LineWords)
-    ensures { λ _. ⌜ vehiclesIn (now (line .exit)) ≡ padTo 24 (drop 1 (vehiclesIn (now (line .entry)))) ⌝ }
+// The slot of place `i` of a line from a start on.
+fn slot_of(start: usize, i: usize) -> usize
+    requires { ⌜ (start < slots) × (i < slots) ⌝ }
+    ensures { λ r. ⌜ (r ≡ (start + i) % slots) × (r < slots) ⌝ }
 {
-    let _ = &line[..];
-    let mut next = 0;
-    let mut i = Section::PLACES;
-    while 0 < i {
-        i -= 1;
-        let here = line[i];
-        line[i] = next;
-        next = here;
-    }
+    (start + i) % SLOTS
 }
 
-// A vehicle stands at place `i`; past the end nothing is stored.
-fn put_at(line: &mut LineWords, i: usize, word: u64)
-    ensures { λ _. ⌜ vehiclesIn (now (line .exit)) ≡ set (vehiclesIn (now (line .entry))) i (vehicleIn word) ⌝ }
+// The vehicle in a slot.
+fn vehicle_at(words: &Words, slot: usize) -> Vehicle
+    requires { ⌜ slot < slots ⌝ }
+    ensures { λ r. ⌜ r ≡ vehicleAt (ringIn (now (words .entry))) slot ⌝ }
 {
-    let _ = &line[..];
-    if i < Section::PLACES {
-        line[i] = word;
+    let first = SLOT_LENGTH * slot;
+    vehicle_in(words[RING + first], words[RING + (first + 1)])
+}
+
+// The vehicle at place `i` of the line.
+pub(crate) fn at_place(words: &Words, i: usize) -> Vehicle
+    requires { ⌜ i < presentIn (now words) ⌝ }
+    ensures { λ r. ⌜ r ≡ getD (lineIn (now (words .entry))) i unused ⌝ }
+{
+    vehicle_at(words, slot_of(start_in(words), i))
+}
+
+// A vehicle is put into a slot. Seen as a slice, the array shows the proof how many its words are.
+fn put_vehicle(words: &mut Words, slot: usize, v: Vehicle)
+    requires { ⌜ slot < slots ⌝ }
+    ensures { λ _. ⌜ VehiclePut (now (words .entry)) (now (words .exit)) slot v ⌝ }
+{
+    let _ = &words[..];
+    let movement = v.movement;
+    let first = SLOT_LENGTH * slot;
+    words[RING + first] = first_word(v);
+    words[RING + (first + 1)] = second_word(movement);
+}
+
+// The slot at a station's end for a vehicle that enters beside `others`: at A's end the ring's start moves there.
+fn entering_slot(words: &mut Words, at: Station, others: usize) -> usize
+    requires { ⌜ others < slots ⌝ }
+    ensures { λ r. ⌜ StartMoved (now (words .entry)) (now (words .exit)) at 31 r (endSlot at (startOn at (startIn (now (words .entry))) 31) others) ⌝ }
+{
+    let _ = &words[..];
+    let start = start_in(words);
+    match at {
+        Station::A => {
+            let slot = slot_of(start, ONE_BACK);
+            words[START] = slot as u64;
+            slot
+        }
+        Station::B => slot_of(start, others),
     }
 }
 
 // One more vehicle, at a station's end.
-pub fn insert(line: &mut LineWords, figures: &mut FigureWords, at: Station, v: Vehicle)
-    ensures { λ _. ⌜ (let s = sectionIn (now (line .entry)) (now (figures .entry)) in sectionIn (now (line .exit)) (now (figures .exit)) ≡ withLine s (insertAt at v (lineOf s))) ⌝ }
+pub fn insert(words: &mut Words, at: Station, v: Vehicle)
+    ensures { λ _. ⌜ LineBecomes (now (words .entry)) (now (words .exit)) (insertAt at v) (λ start. startOn at start 31) ⌝ }
 {
-    let present = present_in(line, figures);
-    let word = vehicle_word(v);
-    figures[LEN] = (present + 1) as u64;
-    blank(line, present);
+    let present = present_in(words);
+    words[LEN] = (present + 1) as u64;
+    let slot = entering_slot(words, at, present);
+    put_vehicle(words, slot, v);
+}
+
+// The slot of the vehicle that leaves at a station's end: at A's end the ring's start moves to the next one.
+fn leaving_slot(words: &mut Words, at: Station, others: usize) -> usize
+    requires { ⌜ others < slots ⌝ }
+    ensures { λ r. ⌜ StartMoved (now (words .entry)) (now (words .exit)) at 1 r (endSlot at (startIn (now (words .entry))) others) ⌝ }
+{
+    let _ = &words[..];
+    let start = start_in(words);
     match at {
-        Station::A => put_first(line, word),
-        Station::B => put_at(line, present, word),
+        Station::A => {
+            words[START] = slot_of(start, 1) as u64;
+            start
+        }
+        Station::B => slot_of(start, others),
     }
 }
 
@@ -117,78 +153,62 @@ fn fewer(n: usize) -> usize
     if 0 < n { n - 1 } else { 0 }
 }
 
-// The vehicle at a station's end is gone.
-pub fn remove(line: &mut LineWords, figures: &mut FigureWords, at: Station)
-    ensures { λ _. ⌜ (let s = sectionIn (now (line .entry)) (now (figures .entry)) in sectionIn (now (line .exit)) (now (figures .exit)) ≡ withLine s (removeAt at (lineOf s))) ⌝ }
+// The vehicle at a station's end is gone, and its slot unused.
+pub fn remove(words: &mut Words, at: Station)
+    ensures { λ _. ⌜ LineBecomes (now (words .entry)) (now (words .exit)) (removeAt at) (λ start. startOn at start 1) ⌝ }
 {
-    let present = present_in(line, figures);
-    let left = fewer(present);
-    figures[LEN] = left as u64;
-    match at {
-        Station::A => {
-            blank(line, present);
-            drop_first(line)
-        }
-        Station::B => blank(line, left),
-    }
+    let others = fewer(present_in(words));
+    words[LEN] = others as u64;
+    let slot = leaving_slot(words, at, others);
+    put_vehicle(words, slot, Vehicle::unused());
 }
 
 // The vehicle nearest a station, or the unused place where there is none.
-pub fn nearest(line: &LineWords, figures: &FigureWords, at: Station) -> Vehicle
-    ensures { λ r. ⌜ r ≡ nearestAt at (lineOf (sectionIn (now (line .entry)) (now (figures .entry)))) ⌝ }
+pub fn nearest(words: &Words, at: Station) -> Vehicle
+    ensures { λ r. ⌜ r ≡ nearestAt at (lineOf (sectionIn (now (words .entry)))) ⌝ }
 {
-    let present = present_in(line, figures);
+    let present = present_in(words);
     if present == 0 {
         return Vehicle::unused();
     }
     match at {
-        Station::A => vehicle_in(line[0]),
-        Station::B => vehicle_in(line[present - 1]),
+        Station::A => at_place(words, 0),
+        Station::B => at_place(words, present - 1),
     }
-}
-
-// `i` where `found`, else `later`: the place that a search from B's end has found so far.
-fn place_if(found: bool, i: usize, later: usize) -> usize
-    ensures { λ r. ⌜ r ≡ cond found i later ⌝ }
-{
-    if found { i } else { later }
 }
 
 // The place of the vehicle named, nearest A first, or the length of the line where it is not present.
-pub fn find(line: &LineWords, figures: &FigureWords, sender: Station, form: u16) -> usize
-    ensures { λ r. ⌜ r ≡ findOf sender form (lineOf (sectionIn (now (line .entry)) (now (figures .entry)))) ⌝ }
+fn find(words: &Words, sender: Station, form: u16) -> usize
+    ensures { λ r. ⌜ (r ≡ findOf sender form (lineIn (now (words .entry)))) × (r ≤ 24) ⌝ }
 {
-    let present = present_in(line, figures);
-    let mut found = present;
-    let mut i = present;
-    while 0 < i {
-        i -= 1;
-        found = place_if(is_named(sender, form, vehicle_in(line[i])), i, found);
+    let present = present_in(words);
+    let mut i = 0;
+    while i < present {
+        if is_named(sender, form, at_place(words, i)) {
+            return i;
+        }
+        i += 1;
     }
-    found
+    present
 }
 
 // Whether the vehicle at place `i` and its neighbour towards B may meet: both present, OPEN or THROUGH, and heading towards one another.
-pub fn may_meet(line: &LineWords, figures: &FigureWords, i: usize) -> bool
-    ensures { λ r. ⌜ r ≡ mayMeet (lineOf (sectionIn (now (line .entry)) (now (figures .entry)))) i ⌝ }
+fn may_meet(words: &Words, i: usize) -> bool
+    requires { ⌜ i ≤ 24 ⌝ }
+    ensures { λ r. ⌜ r ≡ mayMeet (lineIn (now (words .entry))) i ⌝ }
 {
-    let present = present_in(line, figures);
-    if present <= i {
+    if present_in(words) <= i + 1 {
         return false;
     }
-    let next = i + 1;
-    if present <= next {
-        return false;
-    }
-    let v = vehicle_in(line[i]);
-    let w = vehicle_in(line[next]);
+    let v = at_place(words, i);
+    let w = at_place(words, i + 1);
     let left_on = v.movement;
     let other_left_on = w.movement;
     (v.heading == 2) & (w.heading == 1) & is_opener(left_on) & is_opener(other_left_on)
 }
 
 // A vehicle that has met another, now heading to a station.
-fn turned(v: Vehicle, to: Station) -> Vehicle
+fn met(v: Vehicle, to: Station) -> Vehicle
     ensures { λ r. ⌜ r ≡ turned to v ⌝ }
 {
     let mut after = v;
@@ -197,41 +217,35 @@ fn turned(v: Vehicle, to: Station) -> Vehicle
     after
 }
 
-// The vehicle at place `i`, where it is one of the first `len`, is turned.
-fn turn(line: &mut LineWords, len: usize, i: usize, to: Station)
-    requires { ⌜ len ≤ 24 ⌝ }
-    ensures { λ _. ⌜ vehiclesIn (now (line .exit)) ≡ padTo 24 (turnAt to i (take len (vehiclesIn (now (line .entry))))) ⌝ }
+// The vehicle at place `i` has met another, and heads to a station: that alters its first word.
+fn put_met(words: &mut Words, i: usize, to: Station)
+    requires { ⌜ i < presentIn (now words) ⌝ }
+    ensures { λ _. ⌜ LineBecomes (now (words .entry)) (now (words .exit)) (turnAt to i) (λ start. start) ⌝ }
 {
-    let _ = &line[..];
-    blank(line, len);
-    if i < len {
-        let v = turned(vehicle_in(line[i]), to);
-        line[i] = vehicle_word(v);
-    }
+    let _ = &words[..];
+    let present = present_in(words);
+    let slot = slot_of(start_in(words), i);
+    let v = met(vehicle_at(words, slot), to);
+    words[LEN] = present as u64;
+    words[RING + SLOT_LENGTH * slot] = first_word(v);
 }
 
-// The vehicle at place `i` and its neighbour towards B have met, and both head to a station.
-pub fn meet(line: &mut LineWords, figures: &mut FigureWords, to: Station, i: usize)
-    ensures { λ _. ⌜ (let s = sectionIn (now (line .entry)) (now (figures .entry)) in sectionIn (now (line .exit)) (now (figures .exit)) ≡ withLine s (metAt to i (lineOf s))) ⌝ }
+// The vehicle named and its neighbour towards B meet and then both head to a station, if they may; says whether they did.
+pub fn meet(words: &mut Words, to: Station, sender: Station, form: u16) -> bool
+    ensures { λ r. ⌜ Met (now (words .entry)) (now (words .exit)) to sender form r ⌝ }
 {
-    let present = present_in(line, figures);
-    figures[LEN] = present as u64;
-    if present <= i {
-        blank(line, present);
-        return;
+    let i = find(words, sender, form);
+    let may = may_meet(words, i);
+    if may {
+        put_met(words, i, to);
+        put_met(words, i + 1, to);
     }
-    turn(line, present, i, to);
-    turn(line, present, i + 1, to);
+    may
 }
 
 // No vehicle is present, and both desks are as fresh; in force or not.
-pub fn empty(line: &mut LineWords, figures: &mut FigureWords, force: bool)
-    ensures { λ _. ⌜ sectionIn (now (line .exit)) (now (figures .exit)) ≡ emptied force (sectionIn (now (line .entry)) (now (figures .entry)) .refused) ⌝ }
+pub fn empty(words: &mut Words, force: bool)
+    ensures { λ _. ⌜ Becomes (now (words .entry)) (now (words .exit)) (emptied force (sectionIn (now (words .entry)) .refused)) 0 ⌝ }
 {
-    let _ = &figures[..];
-    blank(line, 0);
-    figures[LEN] = 0;
-    figures[FORCE] = word_if(force);
-    put_desk(figures, Station::A, Desk::fresh());
-    put_desk(figures, Station::B, Desk::fresh());
+    *words = emptied_words(force, refused(words));
 }

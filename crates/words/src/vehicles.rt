@@ -1,74 +1,105 @@
-// A vehicle as one word, so that a line of vehicles can be lent and altered where it lies. The word 0 is an unused place.
-ghost use Prim.Native.Nat.{_<_};
-ghost use Rattle.words.specs.Words.{movementIn, movementWord, vehicleIn, vehicleWord};
+// A vehicle as two words, so that a line of vehicles can be lent and altered where it lies. Two zeros are an unused place. specs/Words.antt has the table.
+ghost use Prim.Native.Nat.{_≤_};
+ghost use Rattle.words.specs.Words.{firstWord, leftOn, movementIn, movementWord, packed, vehicleIn};
 ghost use Rattle.working.specs.WellMade.{oneIf};
 ghost use mathlib.Core.Path.{_≡_};
 use working::Movement;
 use working::Vehicle;
 
+// One more than the largest number of 8 and of 16 bits.
+pub(crate) const BYTE: u64 = 256;
+
+pub(crate) const TWO_BYTES: u64 = BYTE * BYTE;
+
+// What a figure of the first word is multiplied by; the form number is at the low end.
+const SENDER: u64 = TWO_BYTES;
+
+const HEADING: u64 = SENDER * BYTE;
+
+const MET: u64 = HEADING * BYTE;
+
+const CLASS: u64 = MET * BYTE;
+
+// So in the second word; what the vehicle left on is at the low end.
+const GRANTED: u64 = BYTE;
+
+const ASKED: u64 = GRANTED * BYTE;
+
+// What a vehicle left on, by number.
+const OPEN: u64 = 0;
+
+const THROUGH: u64 = 1;
+
+const RETURN: u64 = 2;
+
+const TRAIN: u64 = 3;
+
 // 1 where a test holds, else 0.
 pub(crate) fn word_if(test: bool) -> u64
-    ensures { λ r. ⌜ r ≡ oneIf test ⌝ }
+    ensures { λ r. ⌜ (r ≡ oneIf test) × (r ≤ 1) ⌝ }
 {
     if test { 1 } else { 0 }
 }
 
-// What a vehicle left on in the two lowest bits, then granted, then asked.
-fn movement_word(movement: Movement) -> u64
-    ensures { λ r. ⌜ (r ≡ movementWord movement) × (movementIn r ≡ movement) × (r < 262144) ⌝ }
+// Form number, sender, heading, met and class.
+pub(crate) fn first_word(v: Vehicle) -> u64
+    ensures { λ r. ⌜ r ≡ firstWord v ⌝ }
+{
+    v.form as u64
+        + v.sender as u64 * SENDER
+        + v.heading as u64 * HEADING
+        + word_if(v.met) * MET
+        + v.class as u64 * CLASS
+}
+
+// The number of what a vehicle left on, granted and asked.
+fn packed(left: u64, asked: u8, granted: u8) -> u64
+    requires { ⌜ left ≤ 3 ⌝ }
+    ensures { λ r. ⌜ (r ≡ packed left asked granted) × (movementIn r ≡ leftOn left asked granted) ⌝ }
+{
+    left + granted as u64 * GRANTED + asked as u64 * ASKED
+}
+
+// What a vehicle left on, granted and asked.
+pub(crate) fn second_word(movement: Movement) -> u64
+    ensures { λ r. ⌜ (r ≡ movementWord movement) × (movementIn r ≡ movement) ⌝ }
 {
     match movement {
-        Movement::Open { asked } => (asked as u64) * 256 * 4,
-        Movement::Through => 1,
-        Movement::Return { asked, granted } => ((asked as u64) * 256 + granted as u64) * 4 + 2,
-        Movement::Train { asked, granted } => ((asked as u64) * 256 + granted as u64) * 4 + 3,
+        Movement::Open { asked } => packed(OPEN, asked, 0),
+        Movement::Through => packed(THROUGH, 0, 0),
+        Movement::Return { asked, granted } => packed(RETURN, asked, granted),
+        Movement::Train { asked, granted } => packed(TRAIN, asked, granted),
     }
 }
 
-// From the high end: what the vehicle left on, met, class, heading, sender and form number.
-pub(crate) fn vehicle_word(v: Vehicle) -> u64
-    ensures { λ r. ⌜ (r ≡ vehicleWord v) × (vehicleIn r ≡ v) ⌝ }
+fn movement_in(second: u64) -> Movement
+    ensures { λ r. ⌜ r ≡ movementIn second ⌝ }
 {
-    let movement = v.movement;
-    let high = movement_word(movement) * 2 + word_if(v.met);
-    let high = high * 256 + v.class as u64;
-    let high = high * 256 + v.heading as u64;
-    let high = high * 256 + v.sender as u64;
-    high * 65536 + v.form as u64
-}
-
-fn movement_in(word: u64) -> Movement
-    ensures { λ r. ⌜ r ≡ movementIn word ⌝ }
-{
-    let left_on = word % 4;
-    let granted = (word / 4 % 256) as u8;
-    let asked = (word / 4 / 256 % 256) as u8;
-    if left_on == 0 {
+    let left_on = second % BYTE;
+    let granted = (second / GRANTED % BYTE) as u8;
+    let asked = (second / ASKED % BYTE) as u8;
+    if left_on == OPEN {
         return Movement::Open { asked };
     }
-    if left_on == 1 {
+    if left_on == THROUGH {
         return Movement::Through;
     }
-    if left_on == 2 {
+    if left_on == RETURN {
         return Movement::Return { asked, granted };
     }
     Movement::Train { asked, granted }
 }
 
-// The vehicle that a word stands for.
-pub(crate) fn vehicle_in(word: u64) -> Vehicle
-    ensures { λ r. ⌜ r ≡ vehicleIn word ⌝ }
+// The vehicle that two words stand for.
+pub(crate) fn vehicle_in(first: u64, second: u64) -> Vehicle
+    ensures { λ r. ⌜ r ≡ vehicleIn first second ⌝ }
 {
-    let sender = word / 65536;
-    let heading = sender / 256;
-    let class = heading / 256;
-    let met = class / 256;
     Vehicle {
-        movement: movement_in(met / 2),
-        sender: (sender % 256) as u8,
-        form: (word % 65536) as u16,
-        heading: (heading % 256) as u8,
-        met: met % 2 == 1,
-        class: (class % 256) as u8,
+        movement: movement_in(second),
+        sender: (first / SENDER % BYTE) as u8,
+        form: (first % TWO_BYTES) as u16,
+        heading: (first / HEADING % BYTE) as u8,
+        met: first / MET % BYTE == 1,
+        class: (first / CLASS % BYTE) as u8,
     }
 }

@@ -4,7 +4,7 @@ use Prim.Native.Nat.{_≤_}
 use Rattle.lister.proofs.write_listing.Statement.{statement}
 use Rattle.lister.proofs.write_listing.Tie as tie
 use Rattle.step.proofs.Ending.{block-fewer, linesLeft}
-use Rattle.listing.specs.Lines.{longestLine}
+use Rattle.listing.specs.LineText.{longestLine}
 use borrow.Author.Needs.{needs}
 use borrow.Author.Tests.{not-true}
 use lib.ListN.{length}

@@ -5,17 +5,8 @@ use Rattle.listing.proofs.text.put.Statement.{statement}
 use Rattle.listing.proofs.text.put.Tie as tie
 use borrow.Author.Needs.{needs}
 
-slice-write-block : tie.Need-slice-write-block
-slice-write-block c = search needs
-
-add-result : tie.Need-add-result
-add-result c = search needs
-
-same-length : tie.Need-same-length
-same-length c = search needs
-
 returns : tie.Need-returns
 returns c = one (c .args .block .now) (c .args .at) (c .args .byte) (c .pre)
 
 pub put-spec : {M : Type 1} → statement M
-put-spec = tie.close (tie.spec slice-write-block add-result same-length returns)
+put-spec = tie.close (tie.spec (λ c. search needs) (λ c. search needs) (λ c. search needs) returns)

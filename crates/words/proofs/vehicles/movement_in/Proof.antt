@@ -1,17 +1,11 @@
--- `words::movement_in` meets its contract: what is left of a division by 4 is 0, 1, 2 or else 3, and the definition goes by it.
+-- `vehicles::movement_in` meets its contract: the low byte is 0, 1, 2 or more, and the definition goes by it.
 -- Assumes nothing.
-use Prim.Native.Nat.{_%_}
+use Rattle.words.proofs.Packing.{left-train}
 use Rattle.words.proofs.vehicles.movement_in.Statement.{statement}
 use Rattle.words.proofs.vehicles.movement_in.Tie as tie
+use Prim.Native.Nat.{_%_}
 use borrow.Author.Needs.{needs}
-use mathlib.Core.Path.{_≡_}
 use native.Mathlib.Omega.{arith}
-
-cast-granted : tie.Need-cast-granted
-cast-granted c = search needs
-
-cast-asked : tie.Need-cast-asked
-cast-asked c = search needs
 
 returns : tie.Need-returns
 returns c = rw (c .if1 .taken)
@@ -23,10 +17,8 @@ returns-3 : tie.Need-returns-3
 returns-3 c = rw (c .if3 .taken)
 
 returns-4 : tie.Need-returns-4
-returns-4 c =
-    let train : c .before .before .before .args .word % 4 ≡ 3 = omega arith in
-    rw train
+returns-4 c = left-train (c .before .before .before .args .second % 256) (omega arith)
 
 pub movement-in-spec : {M : Type 1} → statement M
 movement-in-spec =
-    tie.close (tie.spec cast-granted cast-asked returns returns-2 returns-3 returns-4)
+    tie.close (tie.spec (λ c. search needs) (λ c. search needs) returns returns-2 returns-3 returns-4)

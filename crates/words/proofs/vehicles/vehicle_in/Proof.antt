@@ -1,27 +1,12 @@
--- `words::vehicle_in` meets its contract: each figure is taken as the definition takes it.
+-- `vehicles::vehicle_in` meets its contract: each figure is taken as the definition takes it.
 -- Assumes nothing.
 use Rattle.words.proofs.vehicles.vehicle_in.Statement.{statement}
 use Rattle.words.proofs.vehicles.vehicle_in.Tie as tie
 use borrow.Author.Needs.{needs}
-
-movement-in-requires : tie.Need-movement-in-requires
-movement-in-requires c κs = search needs
-
-cast-t9 : tie.Need-cast-t9
-cast-t9 c = search needs
-
-cast-t11 : tie.Need-cast-t11
-cast-t11 c = search needs
-
-cast-t13 : tie.Need-cast-t13
-cast-t13 c = search needs
-
-cast-t17 : tie.Need-cast-t17
-cast-t17 c = search needs
 
 returns : tie.Need-returns
 returns c = rw (c .movement-in .ensures)
 
 pub vehicle-in-spec : {M : Type 1} → statement M
 vehicle-in-spec =
-    tie.close (tie.spec movement-in-requires cast-t9 cast-t11 cast-t13 cast-t17 returns)
+    tie.close (tie.spec (λ c κs. search needs) (λ c. search needs) (λ c. search needs) (λ c. search needs) (λ c. search needs) returns)

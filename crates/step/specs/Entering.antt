@@ -1,0 +1,70 @@
+-- What a function on a section in lent words answers and leaves, by the step that it takes; and where the ring then starts.
+use Prim.Native.Nat.{_+_, ℕ}
+use Rattle.words.specs.Words.{Becomes, sectionIn, startIn, startOn, withDeparture}
+use Rattle.working.specs.Effects.{Arrive, Depart, Plan, Refuse, nextForm, vehicleFor}
+use Rattle.working.specs.Events.{At, Bad, Begin, Decoded, Event, Meet, Resume, Says}
+use Rattle.working.specs.Reasons.{beginTests, resumeTests}
+use Rattle.working.specs.Refusals.{firstOf}
+use Rattle.working.specs.Sections.{countRefusal, deskOf, insertAt, lineOf, nearestAt, withDesk, withLine}
+use Rattle.working.specs.Steps.{doneBy, entered, onDecoded, planOf}
+use Rattle.working.specs.declared.Answer.the-variants as answer
+use Rattle.working.specs.declared.Answer.{Answer}
+use Rattle.working.specs.declared.Desk.{Desk}
+use Rattle.working.specs.declared.Movement.{Movement}
+use Rattle.working.specs.declared.Refusal.{Refusal}
+use Rattle.working.specs.declared.Section.{Section}
+use Rattle.working.specs.declared.Station.{Station}
+use Rattle.working.specs.declared.Verdict.the-variants.{Allowed, Refused}
+use Rattle.working.specs.declared.Verdict.{Verdict}
+use mathlib.Core.List.{List}
+use mathlib.Core.Path.{_≡_}
+
+-- ---- where the ring starts after an act
+
+-- a vehicle that enters at A's end stands in the slot before the start, and one that leaves there frees the start
+abbrev pub startBy : Station → Plan → ℕ → ℕ
+startBy x (Refuse why) start = start
+startBy x (Depart p) start = startOn x start 31
+startBy x (Arrive d) start = startOn x start 1
+
+-- BEGIN and RESUME make all words anew
+abbrev pub startIfAnew : Verdict → ℕ → ℕ
+startIfAnew (Refused why) start = start
+startIfAnew Allowed start = 0
+
+abbrev pub startAfter : Section → Event → ℕ → ℕ
+startAfter s Begin start = startIfAnew (firstOf (beginTests (s .force))) start
+startAfter s (At x time act) start = startBy x (planOf act x (s .force) (deskOf s x) time (nearestAt x (lineOf s))) start
+startAfter s (Meet x sender form) start = start
+startAfter s Resume start = startIfAnew (firstOf (resumeTests (s .force) (s .len))) start
+
+abbrev pub startAnswered : Section → Decoded → ℕ → ℕ
+startAnswered s (Bad why) start = start
+startAnswered s (Says event) start = startAfter s event start
+
+-- ---- what is answered, and what the words become
+
+pub record Refuses (before : List ℕ) (why : Refusal) (given : Answer) (after : List ℕ) : Type 0 where
+  pub answer : given ≡ answer.Refused why
+  pub words : Becomes before after (countRefusal (sectionIn before)) (startIn before)
+
+-- a station's act that comes to a plan
+pub record Does (before : List ℕ) (x : Station) (plan : Plan) (given : Answer) (after : List ℕ) : Type 0 where
+  pub answer : given ≡ doneBy (sectionIn before) x plan .answer
+  pub words : Becomes before after (doneBy (sectionIn before) x plan .section) (startBy x plan (startIn before))
+
+pub record Enters (before : List ℕ) (event : Event) (given : Answer) (after : List ℕ) : Type 0 where
+  pub answer : given ≡ entered (sectionIn before) event .answer
+  pub words : Becomes before after (entered (sectionIn before) event .section) (startAfter (sectionIn before) event (startIn before))
+
+pub record Answers (before : List ℕ) (decoded : Decoded) (given : Answer) (after : List ℕ) : Type 0 where
+  pub answer : given ≡ onDecoded (sectionIn before) decoded .answer
+  pub words : Becomes before after (onDecoded (sectionIn before) decoded .section) (startAnswered (sectionIn before) decoded (startIn before))
+
+-- what every departure does to the words of a section in which x's desk is d: a vehicle put in, and the figures that all kinds change
+abbrev pub Leaves : List ℕ → Station → ℕ → Desk → Movement → ℕ → List ℕ → Type 0
+Leaves before x time d movement class after =
+    Becomes before after
+    (withDesk (withLine (sectionIn before) (insertAt x (vehicleFor x (nextForm d) movement class) (lineOf (sectionIn before)))) x
+    (withDeparture time (nextForm d) (d .sent + 1) d))
+    (startOn x (startIn before) 31)

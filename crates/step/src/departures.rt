@@ -1,0 +1,153 @@
+// OPEN, THROUGH, RETURN and TRAIN: why each is refused, and else the figures that it puts and its driver's order.
+ghost use Prim.Native.Nat.{_+_, _<_};
+ghost use Rattle.step.specs.Entering.{Enters, Leaves};
+ghost use Rattle.words.specs.Words.{sectionIn};
+ghost use Rattle.working.specs.Acts as acts;
+ghost use Rattle.working.specs.Events.{At, stationOf, viewOf};
+ghost use Rattle.working.specs.Sections.{deskOf};
+ghost use mathlib.Core.Path.{_≡_};
+use crate::answers::refuse;
+use crate::fields::station_of;
+use crate::fields::view_of;
+use rules::OPEN_FORMS;
+use rules::THROUGH_FORMS;
+use rules::clear_forms;
+use rules::departure_verdict;
+use rules::open_speed;
+use rules::open_verdict;
+use rules::return_clears;
+use rules::return_verdict;
+use rules::train_clears;
+use rules::train_speed;
+use rules::train_verdict;
+use rules::vehicle_for;
+use words::Words;
+use words::desk;
+use words::in_force;
+use words::insert;
+use words::put_clears;
+use words::put_departure;
+use words::put_guest;
+use words::put_out;
+use working::Answer;
+use working::Desk;
+use working::Entry;
+use working::Movement;
+use working::Speed;
+use working::Station;
+use working::Vehicle;
+use working::Verdict;
+
+// A vehicle leaves station `at`, whose desk is `d`, on its next form number, which is given: what every departure puts.
+fn depart(words: &mut Words, at: Station, time: u16, d: Desk, movement: Movement, class: u8) -> u16
+    requires { ⌜ (d ≡ deskOf (sectionIn (now words)) at) × (d .last < 9999) × (d .sent < 12) ⌝ }
+    ensures { λ r. ⌜ (r ≡ d .last + 1) × Leaves (now (words .entry)) at time d movement class (now (words .exit)) ⌝ }
+{
+    let form = d.last + 1;
+    let v = vehicle_for(at, form, movement, class);
+    insert(words, at, v);
+    put_departure(words, at, time, form, d.sent + 1);
+    form
+}
+
+pub(crate) fn enter_open(words: &mut Words, e: Entry) -> Answer
+    ensures { λ r. ⌜
+        Enters (now (words .entry)) (At (stationOf (e .station)) (e .time) (acts.Open (viewOf (e .view)) (e .class) (e .asked))) r (now (words .exit))
+        ⌝ }
+{
+    let at = station_of(e.station);
+    let d = desk(words, at);
+    let verdict = departure_verdict(in_force(words), d, e.time, open_verdict(d));
+    if let Verdict::Refused(why) = verdict {
+        return refuse(words, why);
+    }
+    let movement = Movement::Open { asked: e.asked };
+    let form = depart(words, at, e.time, d, movement, e.class);
+    put_out(words, at, true);
+    Answer::Accepted {
+        form,
+        forms: OPEN_FORMS,
+        speed: open_speed(view_of(e.view)),
+    }
+}
+
+pub(crate) fn enter_through(words: &mut Words, e: Entry) -> Answer
+    ensures { λ r. ⌜
+        Enters (now (words .entry)) (At (stationOf (e .station)) (e .time) (acts.Through (viewOf (e .view)))) r (now (words .exit))
+        ⌝ }
+{
+    let at = station_of(e.station);
+    let d = desk(words, at);
+    let verdict = departure_verdict(in_force(words), d, e.time, open_verdict(d));
+    if let Verdict::Refused(why) = verdict {
+        return refuse(words, why);
+    }
+    let form = depart(
+        words,
+        at,
+        e.time,
+        d,
+        Movement::Through,
+        Vehicle::LIGHT_ENGINE,
+    );
+    Answer::Accepted {
+        form,
+        forms: THROUGH_FORMS,
+        speed: open_speed(view_of(e.view)),
+    }
+}
+
+pub(crate) fn enter_return(words: &mut Words, e: Entry) -> Answer
+    ensures { λ r. ⌜
+        Enters (now (words .entry)) (At (stationOf (e .station)) (e .time) (acts.Return (e .asked) (e .granted))) r (now (words .exit))
+        ⌝ }
+{
+    let at = station_of(e.station);
+    let asked = e.asked;
+    let granted = e.granted;
+    let d = desk(words, at);
+    let verdict = departure_verdict(in_force(words), d, e.time, return_verdict(d, granted));
+    if let Verdict::Refused(why) = verdict {
+        return refuse(words, why);
+    }
+    let clears = d.clears;
+    let form = depart(
+        words,
+        at,
+        e.time,
+        d,
+        Movement::Return { asked, granted },
+        d.guest,
+    );
+    put_guest(words, at, 0);
+    put_clears(words, at, return_clears(clears, granted));
+    Answer::Accepted {
+        form,
+        forms: clear_forms(at, true, asked, granted),
+        speed: Speed::Booked,
+    }
+}
+
+pub(crate) fn enter_train(words: &mut Words, e: Entry) -> Answer
+    ensures { λ r. ⌜
+        Enters (now (words .entry)) (At (stationOf (e .station)) (e .time) (acts.Train (viewOf (e .view)) (e .asked) (e .granted))) r (now (words .exit))
+        ⌝ }
+{
+    let at = station_of(e.station);
+    let asked = e.asked;
+    let granted = e.granted;
+    let d = desk(words, at);
+    let verdict = departure_verdict(in_force(words), d, e.time, train_verdict(d, granted));
+    if let Verdict::Refused(why) = verdict {
+        return refuse(words, why);
+    }
+    let clears = d.clears;
+    let booked = d.sent == 0;
+    let form = depart(words, at, e.time, d, Movement::Train { asked, granted }, 0);
+    put_clears(words, at, train_clears(clears, granted));
+    Answer::Accepted {
+        form,
+        forms: clear_forms(at, booked, asked, granted),
+        speed: train_speed(booked, view_of(e.view)),
+    }
+}

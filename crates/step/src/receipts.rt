@@ -1,0 +1,117 @@
+// RECEIVE: a vehicle is taken at the station's end, and the figures change by whose it is and what it left on.
+ghost use Rattle.step.specs.Entering.{Enters};
+ghost use Rattle.words.specs.Words.{DeskBecomes, sectionIn};
+ghost use Rattle.working.specs.Acts as acts;
+ghost use Rattle.working.specs.Effects.{arriveDesk, otherDesk, ownDesk};
+ghost use Rattle.working.specs.Events.{At, stationOf};
+ghost use Rattle.working.specs.WellMade.{isOpener};
+ghost use Rattle.working.specs.Reasons.{mayEnter};
+ghost use Rattle.working.specs.Sections.{deskOf};
+ghost use mathlib.Core.Bool.{true};
+ghost use mathlib.Core.Path.{_≡_};
+use crate::answers::accepted;
+use crate::answers::refuse;
+use crate::fields::station_of;
+use rules::act_verdict;
+use rules::brought_clears;
+use rules::lowered;
+use rules::opened_clears;
+use rules::receive_verdict;
+use section::station_number;
+use words::Words;
+use words::desk;
+use words::in_force;
+use words::nearest;
+use words::put_clears;
+use words::put_guest;
+use words::put_out;
+use words::put_receipt;
+use words::remove;
+use working::Answer;
+use working::Desk;
+use working::Entry;
+use working::Movement;
+use working::Station;
+use working::Vehicle;
+use working::Verdict;
+
+// The desk of station `at`, which is `d`, where its own vehicle is back: an OPEN or a THROUGH, since no other may enter.
+fn arrive_own(words: &mut Words, at: Station, time: u16, d: Desk, movement: Movement)
+    requires { ⌜ (d ≡ deskOf (sectionIn (now words)) at) × (isOpener movement ≡ true) ⌝ }
+    ensures { λ _. ⌜ DeskBecomes (now (words .entry)) (now (words .exit)) at (λ desk. ownDesk desk time movement) ⌝ }
+{
+    put_receipt(words, at, time, lowered(d.sent));
+    match movement {
+        Movement::Open { asked: _ } => put_out(words, at, false),
+        Movement::Through => {}
+        Movement::Return {
+            asked: _,
+            granted: _,
+        } => {}
+        Movement::Train {
+            asked: _,
+            granted: _,
+        } => {}
+    }
+}
+
+// The same where a vehicle comes from the other station.
+fn arrive_other(words: &mut Words, at: Station, time: u16, d: Desk, v: Vehicle)
+    requires { ⌜ d ≡ deskOf (sectionIn (now words)) at ⌝ }
+    ensures { λ _. ⌜ DeskBecomes (now (words .entry)) (now (words .exit)) at (λ desk. otherDesk desk time (v .class) (v .movement)) ⌝ }
+{
+    let movement = v.movement;
+    let clears = d.clears;
+    put_receipt(words, at, time, 0);
+    match movement {
+        Movement::Open { asked } => {
+            put_guest(words, at, v.class);
+            put_clears(words, at, opened_clears(clears, asked));
+        }
+        Movement::Through => {}
+        Movement::Return { asked, granted } => {
+            put_out(words, at, false);
+            put_clears(
+                words,
+                at,
+                brought_clears(clears, asked, granted, clears.owes),
+            );
+        }
+        Movement::Train { asked, granted } => {
+            let owes = lowered(clears.owes);
+            put_clears(words, at, brought_clears(clears, asked, granted, owes));
+        }
+    }
+}
+
+// The desk of station `at`, which is `d`, where a vehicle that may enter is taken.
+fn arrive(words: &mut Words, at: Station, time: u16, d: Desk, v: Vehicle)
+    requires { ⌜ (d ≡ deskOf (sectionIn (now words)) at) × (mayEnter at v ≡ true) ⌝ }
+    ensures { λ _. ⌜ DeskBecomes (now (words .entry)) (now (words .exit)) at (λ desk. arriveDesk at desk time v) ⌝ }
+{
+    let movement = v.movement;
+    if v.sender == station_number(at) {
+        arrive_own(words, at, time, d, movement);
+    } else {
+        arrive_other(words, at, time, d, v);
+    }
+}
+
+pub(crate) fn enter_receive(words: &mut Words, e: Entry) -> Answer
+    ensures { λ r. ⌜
+        Enters (now (words .entry)) (At (stationOf (e .station)) (e .time) (acts.Receive (stationOf (e .sender)) (e .number))) r (now (words .exit))
+        ⌝ }
+{
+    let at = station_of(e.station);
+    let sender = station_of(e.sender);
+    let d = desk(words, at);
+    let v = nearest(words, at);
+    let own = receive_verdict(at, sender, e.number, v);
+    let verdict = act_verdict(in_force(words), d, e.time, own);
+    if let Verdict::Refused(why) = verdict {
+        return refuse(words, why);
+    }
+    remove(words, at);
+    arrive(words, at, e.time, d, v);
+    accepted()
+}

@@ -9,25 +9,6 @@ use mathlib.Core.Path.{_∙_, _≡_, ap, sym}
 use native.Mathlib.Decide.{decLe}
 use native.Mathlib.Omega.{arith}
 
--- the places from the last but i on
-drop-back : {A : Type 0} (l : List A) (i : ℕ) (d : A) → 0 < i → i ≤ length l → drop (i - 1) l ≡ getD l (i - 1) d ∷ drop i l
-drop-back {A} l i d p h =
-    let e : suc (i - 1) ≡ i = omega arith in
-    drop-cons l (i - 1) d (omega arith) ∙ ap (λ (k : ℕ). getD l (i - 1) d ∷ drop k l) e
-
-module _ {A : Type 0} (l : List A) (n : ℕ) (fits : n ≤ length l) where
-  -- a pass over the first n begins with none
-  drop-end : drop n (take n l) ≡ []
-  drop-end = drop-of-length-le (take n l) {i = n} (omega (arith, length-take-le n l fits))
-
-  -- and goes on with the one before
-  drop-down : (i : ℕ) (d : A) → 0 < i → i ≤ n → drop (i - 1) (take n l) ≡ getD l (i - 1) d ∷ drop i (take n l)
-  drop-down i d p h =
-      drop-back (take n l) i d p (omega (arith, length-take-le n l fits))
-      ∙ ap (λ (x : A). x ∷ drop i (take n l)) (getD-take n l (i - 1) d (omega arith))
-
--- ---- the pass
-
 -- over the first n places of l, down to place `from`, now at place i: what `of` says of those passed
 pub record Pass {T R : Type 0} (of : List T → R) (l : List T) (from n i : ℕ) (told : R) : Type 0 where
   pub within : i ≤ n
@@ -35,12 +16,19 @@ pub record Pass {T R : Type 0} (of : List T → R) (l : List T) (from n i : ℕ)
   pub says : told ≡ of (drop i (take n l))
 
 module _ {T R : Type 0} (of : List T → R) (l : List T) (from n : ℕ) (fits : n ≤ length l) where
+  -- with none
   pub begins : from ≤ n → {told : R} → told ≡ of [] → Pass of l from n n told
-  begins less h = record { within = omega arith; left = less; says = h ∙ ap of (sym (drop-end l n fits)) }
+  begins less h =
+      let none : drop n (take n l) ≡ [] = drop-of-length-le (take n l) {i = n} (omega (arith, length-take-le n l fits)) in
+      record { within = omega arith; left = less; says = h ∙ ap of (sym none) }
 
+  -- with the one before
   pub goes-on : {i : ℕ} {told next : R} → Pass of l from n i told → from < i → (d : T) → next ≡ of (getD l (i - 1) d ∷ drop i (take n l))
       → Pass of l from n (i - 1) next
-  goes-on {i} p less d h = record { within = omega arith; left = omega arith; says = h ∙ ap of (sym (drop-down l n fits i d (omega arith) (p .within))) }
+  goes-on {i} p less d h =
+      let back : suc (i - 1) ≡ i = omega arith in
+      let down = drop-cons (take n l) (i - 1) d (omega (arith, length-take-le n l fits)) in
+      record { within = omega arith; left = omega arith; says = h ∙ ap of (sym (rw (getD-take n l (i - 1) d (omega arith), back) at down)) }
 
   pub ends : {i : ℕ} {told : R} → Pass of l from n i told → i ≤ from → told ≡ of (drop from (take n l))
   ends {i} p most = let done : i ≡ from = omega arith in rw done at (p .says)

@@ -4,8 +4,8 @@
 use Prim.Native.Nat.{_-_, _<_, _≤_, ℕ}
 use Rattle.step.specs.Entering.{Does, Enters, Refuses, startAfter, startIfAnew}
 use Rattle.words.specs.Words.{Becomes, DeskBecomes, Met, sectionIn, startIn, withClears, withGuest, withOut, withReceipt, wordsOf}
-use Rattle.working.proofs.Plans.{depart-passes, receive-passes}
-use Rattle.working.proofs.Tests.{none-holds, none-of-both}
+use Rattle.working.proofs.Reasons.{depart-passes, receive-passes}
+use Rattle.working.proofs.Tests.{none-holds}
 use Rattle.working.specs.Acts.{Act}
 use Rattle.working.specs.Effects.{Plan, Refuse, broughtClears, effectOf, openedClears, otherDesk}
 use Rattle.working.specs.Events.{At, Begin, Event, Meet, Resume}
@@ -131,8 +131,7 @@ receipt-tested s x time sender form {y} {z} {d} {v} {f} at from desk near force 
 pub may-enter : (force : Bool) (d : Desk) (time : ℕ) (x sender : Station) (form : ℕ) (v : Vehicle)
     → firstOf (stationTests force d time ++ receiveTests x sender form v) ≡ Allowed → mayEnter x v ≡ true
 may-enter force d time x sender form v passed =
-    let tests = stationTests force d time ++ receiveTests x sender form v in
-    receive-passes x sender form v (none-of-both (stationTests force d time) (receiveTests x sender form v) (none-holds tests passed) .1) .enters
+    receive-passes force d time x sender form v (none-holds (stationTests force d time ++ receiveTests x sender form v) passed) .enters
 
 -- what a vehicle from the other station brings, put figure by figure, is the definition's desk, by what it left on
 module _ {d e : Desk} {time : ℕ} (class : ℕ) {m : Movement} {brought : Clears} (was : d ≡ e) where

@@ -2,10 +2,11 @@
 -- Assumes nothing.
 use Prim.Native.Nat.{suc, zero, ℕ}
 use Rattle.words.specs.Words.{lineIn, sectionIn}
+use Rattle.working.proofs.Clauses.{section-made}
 use Rattle.working.proofs.Made.{length-line, length-padTo}
-use Rattle.working.proofs.Tests.{both, each-holds, false-true}
+use Rattle.working.proofs.Tests.{both, each-holds}
 use Rattle.working.specs.Sections.{lineOf, padTo, unused, withLine}
-use Rattle.working.specs.WellMade.{all, isBlank, isBlankMovement, madeTests, wellMade}
+use Rattle.working.specs.WellMade.{all, isBlank, isBlankMovement, wellMade}
 use Rattle.working.specs.declared.Movement.the-variants.{Open, Return, Through, Train}
 use Rattle.working.specs.declared.Movement.{Movement}
 use Rattle.working.specs.declared.Section.{Section}
@@ -13,16 +14,16 @@ use Rattle.working.specs.declared.Vehicle.{Vehicle}
 use borrow.Author.Tests.{eqb-true, not-true}
 use lib.Dec.{eqb}
 use lib.ListN.{drop, length, take}
-use mathlib.Core.Bool.{Bool, false, not, true}
+use mathlib.Core.Bool.{Bool, false, false≢true, not, true}
 use mathlib.Core.List.{List, [], _∷_}
 use mathlib.Core.Path.{_≡_, ap, ap₂, refl, sym}
 use native.Mathlib.Omega.{arith}
 
 blank-movement : (m : Movement) → isBlankMovement m ≡ true → m ≡ Open 0
 blank-movement (Open asked) h = rw (eqb-true asked 0 h)
-blank-movement Through h = absurd (false-true h)
-blank-movement (Return asked granted) h = absurd (false-true h)
-blank-movement (Train asked granted) h = absurd (false-true h)
+blank-movement Through h = absurd (false≢true h)
+blank-movement (Return asked granted) h = absurd (false≢true h)
+blank-movement (Train asked granted) h = absurd (false≢true h)
 
 blank-is : (v : Vehicle) → isBlank v ≡ true → v ≡ unused
 blank-is v h =
@@ -47,8 +48,7 @@ padded (suc n) zero (v ∷ l) long blank =
 padded (suc n) (suc k) (v ∷ l) long blank = ap (λ (rest : List Vehicle). v ∷ rest) (padded n k l (omega arith) blank)
 
 pub own-line : (s : Section) → length (s .vehicles) ≡ 24 → wellMade s ≡ true → withLine s (lineOf s) ≡ s
-unfolding wellMade
-own-line s long well = rw (padded 24 (s .len) (s .vehicles) long (each-holds (madeTests s) well .1 .0), length-line s long well)
+own-line s long well = rw (padded 24 (s .len) (s .vehicles) long (section-made s well .blank), length-line s long well)
 
 -- the section in any words has its 24 places
 pub long-in : (w : List ℕ) → length (sectionIn w .vehicles) ≡ 24

@@ -23,7 +23,8 @@ value-high (suc width) n h =
     let e = value-high width (n / 256) (omega arith) in
     simp (onward-append 0 (highFirst width (n / 256)) (n % 256 ∷ []), e) (omega arith)
 
-pub high-value : (bytes : List ℕ) → AreBytes bytes → (width : ℕ) → width ≤ length bytes → highFirst width (valueOf (take width bytes)) ≡ take width bytes
+pub high-value : (bytes : List ℕ) → AreBytes bytes → (width : ℕ) → width ≤ length bytes
+    → highFirst width (valueOf (take width bytes)) ≡ take width bytes
 high-value bytes are zero h = refl
 high-value bytes are (suc width) h =
     let before : ℕ = valueOf (take width bytes) in

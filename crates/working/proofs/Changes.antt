@@ -1,46 +1,33 @@
 -- What a step comes to, by cases, and that it leaves a well-made section well made, whatever the bytes.
 -- A refusal counts; BEGIN and RESUME empty the section; a departure puts a vehicle in at the station's end; a receipt takes one out there; MEET turns two.
 -- Assumes nothing.
-use Prim.Native.Nat.{ℕ, _<_, suc}
-use Rattle.working.proofs.Line.{nearest-insert, remove-insert, split-end}
-use Rattle.working.proofs.Made.{Well, length-padTo, made-of, shape-of, shape-rest, well-far, well-insert, well-of, well-own}
+use Prim.Native.Nat.{_<_, suc, ℕ}
+use Rattle.working.proofs.Line.{Nearest, nearest}
+use Rattle.working.proofs.Made.{Well, length-padTo, made-of, well-arrive, well-insert, well-of}
 use Rattle.working.proofs.Meeting.{turn-left-on, well-turn}
 use Rattle.working.proofs.Plans.{Departs, Fate, arrives, departs, fate, refuses}
 use Rattle.working.proofs.Ranges.{Ranged, ranged-of}
-use Rattle.working.proofs.Receipts.{arrives-far, arrives-own}
-use Rattle.working.proofs.Tests.{NoneHolds, and, both, each-holds, false-true, none-holds, or-intro}
+use Rattle.working.proofs.Reasons.{meet-passes, meets}
+use Rattle.working.proofs.Scans.{scanned}
 use Rattle.working.specs.Acts as acts
 use Rattle.working.specs.Acts.{Act}
-use Rattle.working.specs.Departures.{departureBy}
-use Rattle.working.specs.Effects.{Arrive, Depart, Departing, Plan, arriveDesk, otherDesk, ownDesk}
-use Rattle.working.specs.Entries.{every}
+use Rattle.working.specs.Effects.{Depart, Departing, Plan, arriveDesk}
 use Rattle.working.specs.Events.{At, Bad, Begin, Decoded, Event, Meet, Resume, Says, decode}
-use Rattle.working.specs.Reasons.{beginTests, findOf, isNamed, mayEnter, mayMeet, meetTests, meetingTests, resumeTests}
-use Rattle.working.specs.Refusals.{Test, firstOf}
-use Rattle.working.specs.Sections.{countRefusal, deskOf, emptied, insertAt, lineOf, nearestAt, numberAt, otherAt, padTo, removeAt, unused, withDesk, withLine}
+use Rattle.working.specs.Reasons.{beginTests, findOf, isNamed, mayEnter, mayMeet, meetTests, resumeTests}
+use Rattle.working.specs.Sections.{deskOf, emptied, insertAt, lineOf, nearestAt, otherAt, padTo, withDesk, withLine}
 use Rattle.working.specs.Steps.{accepted, doneBy, entered, metAt, onDecoded, planOf, refused, settled, stepOf, turnAt}
-use Rattle.working.specs.WellMade.{isFrom, isOpener, movementTests, shaped, wellMade}
-use Rattle.working.specs.declared.Answer.the-variants.{Accepted}
+use Rattle.working.specs.WellMade.{wellMade}
 use Rattle.working.specs.declared.Desk.{Desk}
-use Rattle.working.specs.declared.Movement.{Movement}
 use Rattle.working.specs.declared.Refusal.{Refusal}
 use Rattle.working.specs.declared.Section.{Section}
-use Rattle.working.specs.declared.Speed.the-variants.{NoSpeed}
-use Rattle.working.specs.declared.Speed.{Speed}
 use Rattle.working.specs.declared.Station.the-variants.{A, B}
 use Rattle.working.specs.declared.Station.{Station}
 use Rattle.working.specs.declared.Stepped.{Stepped}
 use Rattle.working.specs.declared.Vehicle.{Vehicle}
-use Rattle.working.specs.declared.Verdict.the-variants.{Allowed, Refused}
-use Rattle.working.specs.declared.Verdict.{Verdict}
-use borrow.Author.Tests.{not-false}
-use lib.Dec.{eqb}
-use lib.ListN.{getD, length}
-use mathlib.Core.Bool.{Bool, _&&_, _||_, cond, false, not, true}
+use lib.ListN.{length}
+use mathlib.Core.Bool.{Bool, false, false≢true, true}
 use mathlib.Core.List.{List, [], _∷_}
-use mathlib.Core.Option.{Option}
-use mathlib.Core.Path.{_∙_, _≡_, ap, refl}
-use native.Mathlib.Numerals.{add-one}
+use mathlib.Core.Path.{_≡_, refl}
 use native.Mathlib.Omega.{arith}
 
 -- a section of 24 places that is well made; the places are what the array's type says
@@ -51,159 +38,97 @@ pub record Sound (s : Section) : Type 0 where
 pub well-at : (s : Section) (x : Station) → Sound s → Well x (deskOf s x) (deskOf s (otherAt x)) (lineOf s)
 well-at s x g = well-of s x (g .places) (g .well)
 
+-- ---- what each act leaves, seen from its station
+
+-- the vehicle that a RECEIVE names is there
+pub named-there : (y : Station) (n : ℕ) (x : Station) (l : List Vehicle) → isNamed y n (nearestAt x l) ≡ true → 0 < length l
+named-there y n x (v ∷ l) h = omega arith
+named-there A n A [] h = absurd (false≢true h)
+named-there B n A [] h = absurd (false≢true h)
+named-there A n B [] h = absurd (false≢true h)
+named-there B n B [] h = absurd (false≢true h)
+
+well-meet : (s : Section) (x : Station) (i : ℕ) → Sound s → mayMeet (lineOf s) i ≡ true → Well A (s .a) (s .b) (metAt x i (lineOf s))
+well-meet s x i g may =
+    let m = meets (lineOf s) i may in
+    let first = well-turn x A (s .a) (s .b) i (lineOf s) (well-at s A g) (m .first) in
+    well-turn x A (s .a) (s .b) (suc i) (turnAt x i (lineOf s)) first (rw (turn-left-on x i (suc i) (lineOf s)) (m .second))
+
 -- ---- the cases
 
 pub data Change (s : Section) : Decoded → Stepped → Type 0 where
   refusal : (e : Decoded) (why : Refusal) → Change s e (refused s why)
-  emptying : (e : Decoded) (force : Bool) → departureBy e (Accepted 0 0 NoSpeed) ≡ Option.none → Change s e (accepted (emptied force (s .refused)))
+  emptying : (e : Decoded) (force : Bool) → Change s e (accepted (emptied force (s .refused)))
   departure : (x : Station) (time : ℕ) (act : Act) {p : Departing} → s .force ≡ true → Departs act x (deskOf s x) p
-      → Change s (Says (At x time act)) (doneBy s x (Depart p))
-  arrival : (x : Station) (time : ℕ) (y : Station) (n : ℕ) → s .force ≡ true
-      → isNamed y n (nearestAt x (lineOf s)) ≡ true → mayEnter x (nearestAt x (lineOf s)) ≡ true
-      → Change s (Says (At x time (acts.Receive y n))) (doneBy s x (Arrive (arriveDesk x (deskOf s x) time (nearestAt x (lineOf s)))))
-  meeting : (x y : Station) (n i : ℕ) → s .force ≡ true → mayMeet (lineOf s) i ≡ true
+      → Well x (p .desk) (deskOf s (otherAt x)) (insertAt x (p .vehicle) (lineOf s)) → Change s (Says (At x time act)) (doneBy s x (Depart p))
+  arrival : (x : Station) (time : ℕ) (y : Station) (n : ℕ) (k : Nearest x (lineOf s)) → s .force ≡ true → mayEnter x (k .vehicle) ≡ true
+      → Well x (arriveDesk x (deskOf s x) time (k .vehicle)) (deskOf s (otherAt x)) (k .others)
+      → Change s (Says (At x time (acts.Receive y n))) (accepted (withDesk (withLine s (k .others)) x (arriveDesk x (deskOf s x) time (k .vehicle))))
+  meeting : (x y : Station) (n i : ℕ) → s .force ≡ true → Well A (s .a) (s .b) (metAt x i (lineOf s))
       → Change s (Says (Meet x y n)) (accepted (withLine s (metAt x i (lineOf s))))
 
-settled-elim : (s : Section) (P : Stepped → Type 0) (tests : List Test) (t : Section)
-    → ((why : Refusal) → P (refused s why)) → (NoneHolds tests → P (accepted t)) → P (settled s (firstOf tests) t)
-settled-elim s P tests t refuse ok = go (firstOf tests) refl
-  where
-    go : (v : Verdict) → firstOf tests ≡ v → P (settled s v t)
-    go (Refused why) e = refuse why
-    go Allowed e = ok (none-holds tests e)
-
-fated : (s : Section) (x : Station) (time : ℕ) (act : Act) (p : Plan) → Fate act x (s .force) (deskOf s x) time (nearestAt x (lineOf s)) p
+fated : (s : Section) (x : Station) (time : ℕ) (act : Act) (p : Plan) → Sound s → Fate act x (s .force) (deskOf s x) time (nearestAt x (lineOf s)) p
     → Change s (Says (At x time act)) (doneBy s x p)
-fated s x time act p (refuses why) = refusal (Says (At x time act)) why
-fated s x time act p (departs f q) = departure x time act f q
-fated s x time act p (arrives y n e f named may) = rw e (arrival x time y n f named may)
+fated s x time act p g (refuses why) = refusal (Says (At x time act)) why
+fated s x time act p g (departs {p = q} f leaves) =
+    departure x time act f leaves (well-insert act x (deskOf s x) (deskOf s (otherAt x)) q (lineOf s) (well-at s x g) leaves)
+fated s x time act p g (arrives y n is f named may) =
+    let k = nearest x (lineOf s) (named-there y n x (lineOf s) named) in
+    let enters : mayEnter x (k .vehicle) ≡ true = rw (k .near) at may in
+    let before = rw (k .line) at (well-at s x g) in
+    let after = well-arrive x (deskOf s x) (deskOf s (otherAt x)) time (k .vehicle) (k .others) before enters in
+    rw (is, k .near, k .rest) (arrival x time y n k f enters after)
 
 changed : (s : Section) (e : Event) → Sound s → Ranged e → Change s (Says e) (entered s e)
 unfolding entered
 changed s Begin g r =
-    settled-elim s (Change s (Says Begin)) (beginTests (s .force)) (emptied true (s .refused)) (refusal (Says Begin)) (λ n. emptying (Says Begin) true refl)
+    scanned (λ v. Change s (Says Begin) (settled s v (emptied true (s .refused)))) (beginTests (s .force)) (refusal (Says Begin))
+    (λ n. emptying (Says Begin) true)
 changed s (At x time act) g r =
-    fated s x time act (planOf act x (s .force) (deskOf s x) time (nearestAt x (lineOf s)))
+    fated s x time act (planOf act x (s .force) (deskOf s x) time (nearestAt x (lineOf s))) g
     (fate act x (s .force) (deskOf s x) time (nearestAt x (lineOf s)) r (well-at s x g .own .bounds))
-changed s (Meet x y k) g r =
-    let i = findOf y k (lineOf s) in
-    settled-elim s (Change s (Says (Meet x y k))) (meetTests (s .force) (lineOf s) i) (withLine s (metAt x i (lineOf s))) (refusal (Says (Meet x y k)))
-    (λ n. meeting x y k i (not-false (s .force) (n .0)) (not-false (mayMeet (lineOf s) i) (n .1 .0)))
+changed s (Meet x y n) g r =
+    let i = findOf y n (lineOf s) in
+    scanned (λ v. Change s (Says (Meet x y n)) (settled s v (withLine s (metAt x i (lineOf s))))) (meetTests (s .force) (lineOf s) i) (refusal (Says (Meet x y n)))
+    (λ none. let p = meet-passes (s .force) (lineOf s) i none in meeting x y n i (p .begun) (well-meet s x i g (p .may)))
 changed s Resume g r =
-    settled-elim s (Change s (Says Resume)) (resumeTests (s .force) (s .len)) (emptied false (s .refused)) (refusal (Says Resume))
-    (λ n. emptying (Says Resume) false refl)
+    scanned (λ v. Change s (Says Resume) (settled s v (emptied false (s .refused)))) (resumeTests (s .force) (s .len)) (refusal (Says Resume))
+    (λ n. emptying (Says Resume) false)
 
 pub step-is : (s : Section) (bytes : List ℕ) → wellMade s ≡ true → stepOf s bytes ≡ onDecoded s (decode bytes)
 unfolding stepOf
 step-is s bytes h = rw h
 
 pub change : (s : Section) (bytes : List ℕ) → Sound s → Change s (decode bytes) (stepOf s bytes)
-change s bytes g = rw (step-is s bytes (g .well)) (go (decode bytes) refl)
+change s bytes g = rw (step-is s bytes (g .well)) (by (decode bytes) refl)
   where
-    go : (e : Decoded) → decode bytes ≡ e → Change s e (onDecoded s e)
-    go (Bad why) h = refusal (Bad why) why
-    go (Says e) h = changed s e g (ranged-of bytes e h)
+    by : (e : Decoded) → decode bytes ≡ e → Change s e (onDecoded s e)
+    by (Bad why) h = refusal (Bad why) why
+    by (Says e) h = changed s e g (ranged-of bytes e h)
 
 -- ---- each case leaves the section well made
 
 -- the section with the vehicles l and x's desk e
-sound-with : (s : Section) (x : Station) (e : Desk) (l : List Vehicle) → s .force ≡ true → Well x e (deskOf s (otherAt x)) l → Sound (withDesk (withLine s l) x e)
+sound-with : (s : Section) (x : Station) (e : Desk) (l : List Vehicle) → s .force ≡ true → Well x e (deskOf s (otherAt x)) l
+    → Sound (withDesk (withLine s l) x e)
 sound-with s x e l f w = record { places = places x; well = made-of s x e l f w }
   where
     places : (x : Station) → length (withDesk (withLine s l) x e .vehicles) ≡ 24
     places A = length-padTo 24 l
     places B = length-padTo 24 l
 
-pub well-depart : (s : Section) (act : Act) (x : Station) (p : Departing) → Sound s → Departs act x (deskOf s x) p
-    → Well x (p .desk) (deskOf s (otherAt x)) (insertAt x (p .vehicle) (lineOf s))
-well-depart s act x p g q =
-    well-insert x (deskOf s x) (deskOf s (otherAt x)) (p .desk) (p .vehicle) (lineOf s) (well-at s x g)
-    (q .sender) (q .form) (q .shape) (q .last) (q .sent) (q .room) (q .unused) (q .bounds)
-
--- the vehicle that a RECEIVE names is there
-pub named-there : (y : Station) (n : ℕ) (x : Station) (l : List Vehicle) → isNamed y n (nearestAt x l) ≡ true → 0 < length l
-named-there y n x (v ∷ l) h = omega arith
-named-there A n A [] h = absurd (false-true h)
-named-there B n A [] h = absurd (false-true h)
-named-there A n B [] h = absurd (false-true h)
-named-there B n B [] h = absurd (false-true h)
-
--- a receipt of v, which stands at x's end before the vehicles l
-pub well-arrive : (s : Section) (x : Station) (time : ℕ) (v : Vehicle) (l : List Vehicle) → Sound s → lineOf s ≡ insertAt x v l → mayEnter x v ≡ true
-    → Well x (arriveDesk x (deskOf s x) time v) (deskOf s (otherAt x)) l
-well-arrive s x time v l g e may = go (isFrom (numberAt x) v) refl
-  where
-    d : Desk
-    d = deskOf s x
-
-    o : Desk
-    o = deskOf s (otherAt x)
-
-    w : Well x d o (insertAt x v l)
-    w = rw e at (well-at s x g)
-
-    go : (own : Bool) → isFrom (numberAt x) v ≡ own → Well x (cond own (ownDesk d time (v .movement)) (otherDesk d time (v .class) (v .movement))) o l
-    go true is =
-        let q : (isOpener (v .movement) && (not (v .met) || eqb (v .heading) (numberAt x))) ≡ true = rw is at may in
-        let opener = both (isOpener (v .movement)) (not (v .met) || eqb (v .heading) (numberAt x)) q .0 in
-        well-own x d o (ownDesk d time (v .movement)) v l w is (arrives-own d time (v .movement) opener (w .own .bounds) .0)
-    go false is =
-        let moves = each-holds (movementTests (v .movement) (v .class)) (shape-of v (shape-rest x d o d v l w .0) .moves) in
-        well-far x d o (otherDesk d time (v .class) (v .movement)) v l w is (arrives-far d time (v .class) (v .movement) moves (w .own .bounds) .0)
-
--- the line taken apart at the end of a station whose nearest vehicle is named
-pub record Nearest (x : Station) (l : List Vehicle) : Type 0 where
-  pub vehicle : Vehicle
-  pub others : List Vehicle
-  pub line : l ≡ insertAt x vehicle others
-  pub near : nearestAt x l ≡ vehicle
-  pub rest : removeAt x l ≡ others
-
-pub nearest-of : (y : Station) (n : ℕ) (x : Station) (l : List Vehicle) → isNamed y n (nearestAt x l) ≡ true → Nearest x l
-nearest-of y n x l named =
-    let q = split-end x l (named-there y n x l named) in
-    record {
-      vehicle = q .0;
-      others = q .1;
-      line = q .2;
-      near = ap (nearestAt x) (q .2) ∙ nearest-insert x (q .0) (q .1);
-      rest = ap (removeAt x) (q .2) ∙ remove-insert x (q .0) (q .1);
-    }
-
-sound-arrive : (s : Section) (x : Station) (time : ℕ) (y : Station) (n : ℕ) → Sound s → s .force ≡ true
-    → isNamed y n (nearestAt x (lineOf s)) ≡ true → mayEnter x (nearestAt x (lineOf s)) ≡ true
-    → Sound (withDesk (withLine s (removeAt x (lineOf s))) x (arriveDesk x (deskOf s x) time (nearestAt x (lineOf s))))
-sound-arrive s x time y n g f named may =
-    let q = nearest-of y n x (lineOf s) named in
-    rw (q .near, q .rest)
-    (sound-with s x (arriveDesk x (deskOf s x) time (q .vehicle)) (q .others) f (well-arrive s x time (q .vehicle) (q .others) g (q .line) (rw (q .near) at may)))
-
-sound-meet : (s : Section) (x : Station) (i : ℕ) → Sound s → s .force ≡ true → mayMeet (lineOf s) i ≡ true → Sound (withLine s (metAt x i (lineOf s)))
-sound-meet s x i g f h =
-    let e = each-holds (meetingTests (lineOf s) i) h in
-    let first = well-turn x A (s .a) (s .b) i (lineOf s) (well-at s A g) (e .1 .1 .1 .0) in
-    let opener : isOpener (getD (lineOf s) (suc i) unused .movement) ≡ true = rw add-one at (e .1 .1 .1 .1 .0) in
-    let second = well-turn x A (s .a) (s .b) (suc i) (turnAt x i (lineOf s)) first (rw (turn-left-on x i (suc i) (lineOf s)) opener) in
-    sound-with s A (s .a) (metAt x i (lineOf s)) f second
-
 pub sound-emptied : (force : Bool) (n : ℕ) → Sound (emptied force n)
 unfolding wellMade padTo
-sound-emptied force n = record { places = refl; well = well force }
-  where
-    well : (force : Bool) → wellMade (emptied force n) ≡ true
-    well true = refl
-    well false = refl
-
-sound-refused : (s : Section) → Sound s → Sound (countRefusal s)
-unfolding wellMade
-sound-refused s g = record { places = g .places; well = g .well }
+sound-emptied true n = record { places = refl; well = refl }
+sound-emptied false n = record { places = refl; well = refl }
 
 sound-change : (s : Section) (e : Decoded) (r : Stepped) → Sound s → Change s e r → Sound (r .section)
-sound-change s e r g (refusal k why) = sound-refused s g
-sound-change s e r g (emptying k force n) = sound-emptied force (s .refused)
-sound-change s e r g (departure x time act {p} f q) = sound-with s x (p .desk) (insertAt x (p .vehicle) (lineOf s)) f (well-depart s act x p g q)
-sound-change s e r g (arrival x time y n f named may) = sound-arrive s x time y n g f named may
-sound-change s e r g (meeting x y n i f h) = sound-meet s x i g f h
+unfolding wellMade
+sound-change s e r g (refusal k why) = record { places = g .places; well = g .well }
+sound-change s e r g (emptying k force) = sound-emptied force (s .refused)
+sound-change s e r g (departure x time act {p} f leaves w) = sound-with s x (p .desk) (insertAt x (p .vehicle) (lineOf s)) f w
+sound-change s e r g (arrival x time y n k f may w) = sound-with s x (arriveDesk x (deskOf s x) time (k .vehicle)) (k .others) f w
+sound-change s e r g (meeting x y n i f w) = sound-with s A (s .a) (metAt x i (lineOf s)) f w
 
 -- ---- the theorem: a step, accepted or refused, leaves a well-made section well made
 

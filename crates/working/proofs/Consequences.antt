@@ -1,22 +1,20 @@
 -- What each clause of demand 3 says of lists that are written out, drawn from the theorem. A clause gives first a fact of every list, over figures that nothing
 -- computes, so that a weaker clause does not give it; then come lists with document 01's figures in numbers.
 -- Assumes nothing.
-use Prim.Native.Nat.{ℕ, _%_, _+_, _<_}
+use Prim.Native.Nat.{_%_, _+_, _<_, ℕ}
+use Rattle.working.proofs.Computing.{step-computes}
 use Rattle.working.proofs.Demand3.{demand3}
+use Rattle.working.proofs.Line.{other-differs}
 use Rattle.working.proofs.Lists.{Todo, after, done, runs}
 use Rattle.working.proofs.Literals.{begin, figures, opens, plain, receive, resume, returns, returnsAsking, sameSection, through, train, trainGranting, vehicle, working}
-use Rattle.working.proofs.Swap.{isReceive}
-use Rattle.working.proofs.Tests.{both, false-true}
+use Rattle.working.proofs.Tests.{both}
 use Rattle.working.specs.Acts as acts
-use Rattle.working.specs.Demand3.{onTheWayTo, trainsOf, vehicleAt}
+use Rattle.working.specs.Demand3.{isDeparture, onTheWayTo, trainsOf, vehicleAt}
 use Rattle.working.specs.Departures.{Departure, Kind, OPEN, RETURN, THROUGH, TRAIN, departureOf, kindIn, leftSlowly}
 use Rattle.working.specs.Effects.{isSlow}
-use Rattle.working.specs.Entries.{entryIn, every, judge, lengthOf, mapFits, rangesHold, readAt}
-use Rattle.working.specs.Events.{decode}
+use Rattle.working.specs.Entries.{every}
 use Rattle.working.specs.Runs.{Done, Form, Run, byValue, inPlace, results}
-use Rattle.working.specs.Sections.{deskOf, emptied, fresh, freshDesk, numberAt, otherAt, padTo}
-use Rattle.working.specs.Steps.{entered, stepOf}
-use Rattle.working.specs.WellMade.{wellMade}
+use Rattle.working.specs.Sections.{deskOf, emptied, fresh, freshDesk, numberAt, otherAt}
 use Rattle.working.specs.declared.Answer.the-variants.{Accepted, Refused}
 use Rattle.working.specs.declared.Answer.{Answer}
 use Rattle.working.specs.declared.Interval.the-variants.{Since, Stopped}
@@ -32,7 +30,7 @@ use Rattle.working.specs.declared.Vehicle.{Vehicle}
 use Rattle.working.specs.declared.View.the-variants.{Clear, Impaired}
 use borrow.Author.Tests.{eqb-true}
 use lib.Dec.{eqb}
-use mathlib.Core.Bool.{Bool, _||_, false, true}
+use mathlib.Core.Bool.{Bool, _||_, false, false≢true, true, true≢false}
 use mathlib.Core.List.{List, [], _++_, _∷_}
 use mathlib.Core.Option.{Option, none, some}
 use mathlib.Core.Path.{_∙_, _≡_, ap, refl}
@@ -48,6 +46,9 @@ alternately inPlace (bytes ∷ l) = record { form = inPlace; bytes = bytes } ∷
 
 abbrev list : List (List ℕ) → List Todo
 list l = alternately byValue (begin ∷ l)
+
+abbrev handed : Form → List ℕ → Answer → Done
+handed form bytes answer = record { form = form; bytes = bytes; answer = answer }
 
 -- the vehicle at a place after a list, and its departure in that list
 abbrev there : List Todo → ℕ → Vehicle
@@ -76,12 +77,12 @@ following x = running x ++ trainGranting (numberAt x) 121 3 ∷ []
 
 -- no bytes, BEGIN, an OPEN: whatever the forms, and whatever answers a run of these bytes is said to have
 each-fixed : {f g h : Form} {a b c : Answer} {s : Section}
-    (run : Run fresh (record { form = f; bytes = []; answer = a } ∷ record { form = g; bytes = begin; answer = b } ∷ record { form = h; bytes = opens 1 10 1 2; answer = c } ∷ []) s)
+    (run : Run fresh (handed f [] a ∷ handed g begin b ∷ handed h (opens 1 10 1 2) c ∷ []) s)
     → results run ≡ record { answer = Refused EndsInside; section = emptied false 1 }
     ∷ record { answer = plain; section = emptied true 1 }
     ∷ record { answer = Accepted 1 7 (Kmh 15); section = working 1 (vehicle (Open 2) 1 1 2 false 1 ∷ []) (figures 10 1 1 (Since 10) true 0 0 0 0) freshDesk }
     ∷ []
-unfolding stepOf wellMade decode readAt judge mapFits rangesHold entryIn lengthOf entered padTo
+unfolding step-computes
 each-fixed run = demand3 run .each
 
 -- ---- every vehicle present has its departure in the list, of the kind that its record says
@@ -106,7 +107,7 @@ each-kind : Left (opens 1 10 1 2 ∷ []) 0 (Open 2) (departure A OPEN 1 7 (Kmh 1
     × Left (granting A) 0 (Return 3 2) (departure B RETURN 1 182 Booked)
     × Left (following A) 1 (Train 0 0) (departure A TRAIN 2 168 Booked)
     × Left (following A) 0 (Train 0 3) (departure A TRAIN 3 108 (Kmh 25))
-unfolding stepOf wellMade decode readAt judge mapFits rangesHold entryIn lengthOf entered padTo
+unfolding step-computes
 each-kind = (
   left (opens 1 10 1 2 ∷ []) 0 1 refl (omega arith) refl refl,
   left (through 2 0 10 ∷ []) 0 1 refl (omega arith) refl refl,
@@ -120,7 +121,7 @@ abbrev twice : List (List ℕ)
 twice = opens 1 10 1 2 ∷ receive 1 11 1 1 ∷ resume ∷ begin ∷ through 1 0 5 ∷ []
 
 last-departure : Left twice 0 Through (departure A THROUGH 1 1 (Kmh 15))
-unfolding stepOf wellMade decode readAt judge mapFits rangesHold entryIn lengthOf entered padTo
+unfolding step-computes
 last-departure = left twice 0 1 refl (omega arith) refl refl
 
 -- ---- any two vehicles heading towards one another both left on T/B 602 at 15 km/h or less
@@ -153,14 +154,14 @@ data Slow : Speed → Type 0 where
   walking : Slow Walking
 
 slow : (v : Speed) → isSlow v ≡ true → Slow v
-slow NoSpeed e = absurd (false-true e)
+slow NoSpeed e = absurd (false≢true e)
 slow Walking e = walking
 slow (Kmh k) e = by (eqb k 15) refl e
   where
     by : (b : Bool) → eqb k 15 ≡ b → (b || eqb k 10) ≡ true → Slow (Kmh k)
     by true is e = rw (eqb-true k 15 is) at-15
     by false is e = rw (eqb-true k 10 e) at-10
-slow Booked e = absurd (false-true e)
+slow Booked e = absurd (false≢true e)
 
 -- on T/B 602, the 1 of the sum, at one of the three speeds
 abbrev OnTB602 : Departure → Type 0
@@ -169,7 +170,8 @@ OnTB602 p = (p .forms % 2 ≡ 1) × Slow (p .speed)
 opposed-slow : (l : List Todo) (i j : ℕ) {p q : Departure} → i < j → j < after fresh l .len → there l i .heading ≡ 2 → there l j .heading ≡ 1
     → leftBy l i ≡ some p → leftBy l j ≡ some q → OnTB602 p × OnTB602 q
 opposed-slow l i j {p} {q} less present to-B to-A p-left q-left =
-    let o : (leftSlowly (leftBy l i) ≡ true) × (leftSlowly (leftBy l j) ≡ true) = demand3 (runs fresh l) .opposed i j (omega arith) (omega arith) to-B to-A in
+    let o : (leftSlowly (leftBy l i) ≡ true) × (leftSlowly (leftBy l j) ≡ true) =
+    demand3 (runs fresh l) .opposed i j (omega arith) (omega arith) to-B to-A in
     (on p (rw p-left at (o .0)), on q (rw q-left at (o .1)))
   where
     on : (p : Departure) → leftSlowly (some p) ≡ true → OnTB602 p
@@ -180,7 +182,8 @@ abbrev Opposed : List (List ℕ) → ℕ → ℕ → Departure → Departure →
 Opposed l i j p q =
     (there (list l) i .heading ≡ 2) × (there (list l) j .heading ≡ 1) × (leftBy (list l) i ≡ some p) × (leftBy (list l) j ≡ some q) × OnTB602 p × OnTB602 q
 
-opposed : (l : List (List ℕ)) (i j n : ℕ) {p q : Departure} → after fresh (list l) .len ≡ n → i < j → j < n → there (list l) i .heading ≡ 2 → there (list l) j .heading ≡ 1
+opposed : (l : List (List ℕ)) (i j n : ℕ) {p q : Departure} → after fresh (list l) .len ≡ n → i < j → j < n → there (list l) i .heading ≡ 2
+    → there (list l) j .heading ≡ 1
     → leftBy (list l) i ≡ some p → leftBy (list l) j ≡ some q → Opposed l i j p q
 opposed l i j n many less present to-B to-A p-left q-left =
     let o = opposed-slow (list l) i j less (omega arith) to-B to-A p-left q-left in
@@ -196,13 +199,16 @@ three =
 
 neighbours-or-not : Opposed three 0 2 (departure A THROUGH 2 1 Walking) (departure B THROUGH 1 1 (Kmh 15))
     × Opposed three 1 2 (departure A THROUGH 1 1 (Kmh 10)) (departure B THROUGH 1 1 (Kmh 15))
-unfolding stepOf wellMade decode readAt judge mapFits rangesHold entryIn lengthOf entered padTo
-neighbours-or-not = (opposed three 0 2 3 refl (omega arith) (omega arith) refl refl refl refl, opposed three 1 2 3 refl (omega arith) (omega arith) refl refl refl refl)
+unfolding step-computes
+neighbours-or-not = (
+  opposed three 0 2 3 refl (omega arith) (omega arith) refl refl refl refl,
+  opposed three 1 2 3 refl (omega arith) (omega arith) refl refl refl refl,
+)
 
 -- a THROUGH opposed to an OPEN, and an OPEN to a THROUGH
 through-and-open : Opposed (opens 1 5 3 2 ∷ through 2 0 9 ∷ []) 0 1 (departure A OPEN 1 7 Walking) (departure B THROUGH 1 1 (Kmh 15))
     × Opposed (opens 2 5 2 8 ∷ through 1 0 9 ∷ []) 0 1 (departure A THROUGH 1 1 (Kmh 15)) (departure B OPEN 1 7 (Kmh 10))
-unfolding stepOf wellMade decode readAt judge mapFits rangesHold entryIn lengthOf entered padTo
+unfolding step-computes
 through-and-open = (
   opposed (opens 1 5 3 2 ∷ through 2 0 9 ∷ []) 0 1 2 refl (omega arith) (omega arith) refl refl refl refl,
   opposed (opens 2 5 2 8 ∷ through 1 0 9 ∷ []) 0 1 2 refl (omega arith) (omega arith) refl refl refl refl,
@@ -252,7 +258,7 @@ either-station : (x : Station)
     × Owed (running x) (otherAt x) 2 1 1 0
     × Owed (following x) (otherAt x) 2 0 2 0
     × Owed (following x) x 3 0 0 3
-unfolding stepOf wellMade decode readAt judge mapFits rangesHold entryIn lengthOf entered padTo
+unfolding step-computes
 either-station A = (owed (granting A) B refl, owed (holding A) B refl, owed (running A) B refl, owed (following A) B refl, owed (following A) A refl)
 either-station B = (owed (granting B) A refl, owed (holding B) A refl, owed (running B) A refl, owed (following B) A refl, owed (following B) B refl)
 
@@ -263,16 +269,10 @@ todos [] = []
 todos (d ∷ l) = record { form = d .form; bytes = d .bytes } ∷ todos l
 
 abbrev returned : List ℕ → Answer → Done
-returned bytes answer = record { form = byValue; bytes = bytes; answer = answer }
+returned bytes answer = handed byValue bytes answer
 
 abbrev inMemory : List ℕ → Answer → Done
-inMemory bytes answer = record { form = inPlace; bytes = bytes; answer = answer }
-
-A-not-B : A ≡ B → ⊥
-A-not-B e = let z : _≡_ {A = ℕ} 0 1 = cc in omega arith
-
-B-not-A : B ≡ A → ⊥
-B-not-A e = let z : _≡_ {A = ℕ} 0 1 = cc in omega arith
+inMemory bytes answer = handed inPlace bytes answer
 
 -- B and A open in view 3, then B and A take their own openers back
 abbrev begins : List Done
@@ -295,23 +295,21 @@ takenBack = todos (begins ++ openB ∷ openA ∷ backB ∷ backA ∷ [])
 
 -- two receipts
 receipts-exchanged : Run fresh (begins ++ openB ∷ openA ∷ backA ∷ backB ∷ []) (after fresh takenBack)
-unfolding stepOf wellMade decode readAt judge mapFits rangesHold entryIn lengthOf entered padTo
+unfolding step-computes
 receipts-exchanged =
     demand3 (runs fresh takenBack) .swap (begins ++ openB ∷ openA ∷ []) backB backA [] B A (acts.Receive B 1) (acts.Receive A 1) refl
     (record { time = 2; entry = refl; accepted = refl })
     (record { time = 1; entry = refl; accepted = refl })
-    B-not-A
-    (λ r. false-true (r .0))
+    (other-differs B) (λ r. false≢true (r .0))
 
 -- two departures, with the receipts of both behind them
 departures-exchanged : Run fresh (begins ++ openA ∷ openB ∷ backB ∷ backA ∷ []) (after fresh takenBack)
-unfolding stepOf wellMade decode readAt judge mapFits rangesHold entryIn lengthOf entered padTo
+unfolding step-computes
 departures-exchanged =
     demand3 (runs fresh takenBack) .swap begins openB openA (backB ∷ backA ∷ []) B A (acts.Open Impaired 2 6) (acts.Open Impaired 4 5) refl
     (record { time = 0; entry = refl; accepted = refl })
     (record { time = 0; entry = refl; accepted = refl })
-    B-not-A
-    (λ r. false-true (ap isReceive (r .1)))
+    (other-differs B) (λ r. true≢false (ap isDeparture (r .1)))
 
 -- behind no bytes, which are refused, A opens, holds two line clears and sends its first train. A's second train and B's receipt of the first are neighbours, and
 -- behind them come B's receipt of the second, bytes that are no entry, and a THROUGH of B.
@@ -344,18 +342,16 @@ takenThenSent = todos (oneSent ++ firstTaken ∷ secondSent ∷ behind)
 -- a TRAIN and a RECEIVE, and the same two from the other order
 train-and-receipt-exchanged : Run fresh (oneSent ++ firstTaken ∷ secondSent ∷ behind) (after fresh sentThenTaken)
     × Run fresh (oneSent ++ secondSent ∷ firstTaken ∷ behind) (after fresh takenThenSent)
-unfolding stepOf wellMade decode readAt judge mapFits rangesHold entryIn lengthOf entered padTo
+unfolding step-computes
 train-and-receipt-exchanged = (
   demand3 (runs fresh sentThenTaken) .swap oneSent secondSent firstTaken behind A B (acts.Train Clear 0 0) (acts.Receive A 2) refl
       (record { time = 121; entry = refl; accepted = refl })
       (record { time = 115; entry = refl; accepted = refl })
-      A-not-B
-      (λ r. let e = r .1 in let z : _≡_ {A = ℕ} 2 3 = cc in omega arith),
+      (other-differs A) (λ r. let e = r .1 in let z : _≡_ {A = ℕ} 2 3 = cc in omega arith),
   demand3 (runs fresh takenThenSent) .swap oneSent firstTaken secondSent behind B A (acts.Receive A 2) (acts.Train Clear 0 0) refl
       (record { time = 115; entry = refl; accepted = refl })
       (record { time = 121; entry = refl; accepted = refl })
-      B-not-A
-      (λ r. false-true (r .0)),
+      (other-differs B) (λ r. false≢true (r .0)),
 )
 
 -- the sections that these lists end in, in figures
@@ -369,5 +365,5 @@ exchanged-ends :
     ∷ sameSection (after fresh takenThenSent) ended
     ∷ [])
     ≡ true
-unfolding stepOf wellMade decode readAt judge mapFits rangesHold entryIn lengthOf entered padTo
+unfolding step-computes
 exchanged-ends = refl

@@ -1,20 +1,20 @@
 -- Of every list of steps from a fresh section: no step is refused with 5, since every section on the way is well made and no other test gives 5;
 -- and where a TRAIN of the other station is the nearest, the station owes a line clear, so that "not below 0" never acts.
 -- Assumes nothing.
-use Prim.Native.Nat.{ℕ, _+_, _<_}
+use Prim.Native.Nat.{_+_, _<_, ℕ}
 use Rattle.working.proofs.Changes.{step-is}
 use Rattle.working.proofs.Demand3.{kept}
 use Rattle.working.proofs.Found.{Found, cut, found, the-end, whole}
 use Rattle.working.proofs.Invariant.{trainOne, trains, weigh-snoc}
 use Rattle.working.proofs.Kept.{kept-at}
-use Rattle.working.proofs.Line.{nearest-insert, split-end}
+use Rattle.working.proofs.Line.{nearest}
 use Rattle.working.proofs.Lists.{split-run, step-did}
 use Rattle.working.proofs.Sides.{moves-far, movesOf}
 use Rattle.working.proofs.Tests.{both}
 use Rattle.working.specs.Acts as acts
 use Rattle.working.specs.Acts.{Act}
 use Rattle.working.specs.Departures.{isTrain, kindIn}
-use Rattle.working.specs.Effects.{Plan, effectOf}
+use Rattle.working.specs.Effects.{Plan}
 use Rattle.working.specs.Entries.{entryIn, entryTests, judge, lengthOf, mapIn, readAs, readAt}
 use Rattle.working.specs.Events.{At, Bad, Begin, Decoded, Event, Meet, Resume, Says, decode, decodedAs}
 use Rattle.working.specs.Reasons.{beginTests, findOf, meetTests, resumeTests, testsOf}
@@ -66,41 +66,35 @@ fine-first (t ∷ ts) h = let p = both (notFive (t .1)) (noFive ts) h in by (t .
     by true here later = here
     by false here later = later
 
-fine-done : (s : Section) (x : Station) (v : Verdict) (p : Plan) → fineVerdict v → Fine (doneBy s x p .answer) → Fine (doneBy s x (unlessRefused v p) .answer)
-fine-done s x (Refused why) p h ok = h
-fine-done s x Allowed p h ok = ok
+module _ (s : Section) where
+  fine-settled : (ts : List Test) (t : Section) → noFive ts ≡ true → Fine (settled s (firstOf ts) t .answer)
+  fine-settled ts t h = by (firstOf ts) (fine-first ts h)
+    where
+      by : (v : Verdict) → fineVerdict v → Fine (settled s v t .answer)
+      by (Refused why) h = h
+      by Allowed h = tt
 
-fine-settled : (s : Section) (v : Verdict) (t : Section) → fineVerdict v → Fine (settled s v t .answer)
-fine-settled s (Refused why) t h = h
-fine-settled s Allowed t h = tt
+  fine-done : (x : Station) (ts : List Test) (p : Plan) → noFive ts ≡ true → Fine (doneBy s x p .answer)
+      → Fine (doneBy s x (unlessRefused (firstOf ts) p) .answer)
+  fine-done x ts p h ok = by (firstOf ts) (fine-first ts h)
+    where
+      by : (v : Verdict) → fineVerdict v → Fine (doneBy s x (unlessRefused v p) .answer)
+      by (Refused why) h = h
+      by Allowed h = ok
 
-fine-effect : (s : Section) (x : Station) (act : Act) (d : Desk) (time : ℕ) (v : Vehicle) → Fine (doneBy s x (effectOf act x d time v) .answer)
-fine-effect s x (acts.Open view class asked) d time v = tt
-fine-effect s x (acts.Through view) d time v = tt
-fine-effect s x (acts.Return asked granted) d time v = tt
-fine-effect s x (acts.Train view asked granted) d time v = tt
-fine-effect s x (acts.Receive sender form) d time v = tt
+  fine-act : (x : Station) (act : Act) (force : Bool) (d : Desk) (time : ℕ) (v : Vehicle) → Fine (doneBy s x (planOf act x force d time v) .answer)
+  fine-act x (acts.Open view class asked) force d time v = fine-done x (testsOf (acts.Open view class asked) x force d time v) _ refl tt
+  fine-act x (acts.Through view) force d time v = fine-done x (testsOf (acts.Through view) x force d time v) _ refl tt
+  fine-act x (acts.Return asked granted) force d time v = fine-done x (testsOf (acts.Return asked granted) x force d time v) _ refl tt
+  fine-act x (acts.Train view asked granted) force d time v = fine-done x (testsOf (acts.Train view asked granted) x force d time v) _ refl tt
+  fine-act x (acts.Receive sender form) force d time v = fine-done x (testsOf (acts.Receive sender form) x force d time v) _ refl tt
 
-fine-tests : (act : Act) (x : Station) (force : Bool) (d : Desk) (time : ℕ) (v : Vehicle) → noFive (testsOf act x force d time v) ≡ true
-fine-tests (acts.Open view class asked) x force d time v = refl
-fine-tests (acts.Through view) x force d time v = refl
-fine-tests (acts.Return asked granted) x force d time v = refl
-fine-tests (acts.Train view asked granted) x force d time v = refl
-fine-tests (acts.Receive sender form) x force d time v = refl
-
-fine-plan : (s : Section) (x : Station) (act : Act) (force : Bool) (d : Desk) (time : ℕ) (v : Vehicle) → Fine (doneBy s x (planOf act x force d time v) .answer)
-fine-plan s x act force d time v =
-    fine-done s x (firstOf (testsOf act x force d time v)) (effectOf act x d time v)
-    (fine-first (testsOf act x force d time v) (fine-tests act x force d time v)) (fine-effect s x act d time v)
-
-fine-entered : (s : Section) (e : Event) → Fine (entered s e .answer)
-unfolding entered
-fine-entered s Begin = fine-settled s (firstOf (beginTests (s .force))) _ (fine-first (beginTests (s .force)) refl)
-fine-entered s (At x time act) = fine-plan s x act (s .force) (deskOf s x) time (nearestAt x (lineOf s))
-fine-entered s (Meet x sender form) =
-    let tests = meetTests (s .force) (lineOf s) (findOf sender form (lineOf s)) in
-    fine-settled s (firstOf tests) _ (fine-first tests refl)
-fine-entered s Resume = fine-settled s (firstOf (resumeTests (s .force) (s .len))) _ (fine-first (resumeTests (s .force) (s .len)) refl)
+  fine-entered : (e : Event) → Fine (entered s e .answer)
+  unfolding entered
+  fine-entered Begin = fine-settled (beginTests (s .force)) _ refl
+  fine-entered (At x time act) = fine-act x act (s .force) (deskOf s x) time (nearestAt x (lineOf s))
+  fine-entered (Meet x sender form) = fine-settled (meetTests (s .force) (lineOf s) (findOf sender form (lineOf s))) _ refl
+  fine-entered Resume = fine-settled (resumeTests (s .force) (s .len)) _ refl
 
 -- what bytes come to is no 5 either
 abbrev FineDecoded : Decoded → Type 0
@@ -124,13 +118,14 @@ fine-decoded : (s : Section) (e : Decoded) → FineDecoded e → Fine (onDecoded
 fine-decoded s (Bad why) h = h
 fine-decoded s (Says e) h = fine-entered s e
 
-pub never-five : {l : List Done} {s : Section} → Run fresh l s → (before : List Done) (d : Done) (after : List Done) → l ≡ before ++ d ∷ after → Fine (d .answer)
-never-five {s = s} run before d after is = let q = split-run before (rw is at run) in by (q .0) (q .1) (q .2)
+pub never-five : {l : List Done} {s : Section} → Run fresh l s → (before : List Done) (d : Done) (after : List Done)
+    → l ≡ before ++ d ∷ after → Fine (d .answer)
+never-five {s = s} run before d after is = let (t, first, later) = split-run before (rw is at run) in by t first later
   where
     by : (t : Section) → Run fresh before t → Run t (d ∷ after) s → Fine (d .answer)
     by t r (next {t = u} h more) =
         let did = step-did d t u h in
-        rw (did .0, step-is t (d .bytes) (kept r .good .sound .well)) (fine-decoded t (decode (d .bytes)) (fine-decode (d .bytes)))
+        rw (did .answered, step-is t (d .bytes) (kept r .good .sound .well)) (fine-decoded t (decode (d .bytes)) (fine-decode (d .bytes)))
 
 -- ---- a TRAIN that comes is owed
 
@@ -138,11 +133,9 @@ pub train-owed : {l : List Done} {s : Section} → Run fresh l s → (x : Statio
     → isFrom (numberAt (otherAt x)) (nearestAt x (lineOf s)) ≡ true → isTrain (kindIn (nearestAt x (lineOf s) .movement)) ≡ true
     → 0 < deskOf s x .clears .owes
 train-owed {s = s} run x there from train =
-    let q = split-end x (lineOf s) there in
-    let v = q .0 in
-    let near : nearestAt x (lineOf s) ≡ v = ap (nearestAt x) (q .2) ∙ nearest-insert x v (q .1) in
-    let from-v : isFrom (numberAt (otherAt x)) v ≡ true = rw near at from in
-    let one : trainOne (v .movement) ≡ 1 = rw (rw near at train) in
-    let theirs : movesOf (otherAt x) (lineOf s) ≡ movesOf (otherAt x) (q .1) ++ v .movement ∷ [] = ap (movesOf (otherAt x)) (q .2) ∙ moves-far x v (q .1) from-v in
-    let counted : trains (movesOf (otherAt x) (lineOf s)) ≡ trains (movesOf (otherAt x) (q .1)) + trainOne (v .movement) = ap trains theirs ∙ weigh-snoc trainOne (movesOf (otherAt x) (q .1)) (v .movement) in
-    omega (arith, kept-at x s (kept run .good) .own .sum)
+    let k = nearest x (lineOf s) there in
+    let v = k .vehicle in
+    let far = otherAt x in
+    let one : trainOne (v .movement) ≡ 1 = rw (rw (k .near) at train) in
+    let theirs = ap (movesOf far) (k .line) ∙ moves-far x v (k .others) (rw (k .near) at from) in
+    omega (arith, kept-at x s (kept run .good) .own .sum, ap trains theirs, weigh-snoc trainOne (movesOf far (k .others)) (v .movement))

@@ -2,32 +2,30 @@
 -- After each step the section is well made, the invariant holds, and every vehicle present has its departure in the list so far; the claims at the end follow
 -- from these. Two neighbours change places because each reads and alters only its own desk and its own end of the line.
 -- Assumes nothing.
-use Prim.Native.Nat.{ℕ, _+_, _<_}
+use Prim.Native.Nat.{_+_, _<_, ℕ}
 use Rattle.working.proofs.Changes.{change}
+use Rattle.working.proofs.Every.{Every, every-at}
 use Rattle.working.proofs.Kept.{Good, good-emptied, good-step}
-use Rattle.working.proofs.Line.{Every, every-at}
 use Rattle.working.proofs.Lists.{StepDid, each-result, join-run, split-run, step-by, step-did}
 use Rattle.working.proofs.Made.{length-line}
 use Rattle.working.proofs.Opposed.{opposed-openers}
 use Rattle.working.proofs.Swap.{Opposite, ab, ba, swapped}
 use Rattle.working.proofs.Told.{Told, granted-line, told-change, trains-told}
-use Rattle.working.specs.Acts as acts
 use Rattle.working.specs.Acts.{Act}
-use Rattle.working.specs.Demand3.{AcceptedAt, Demand3, ReceivesIt, formIn, onTheWayTo, trainsOf, vehicleAt}
+use Rattle.working.specs.Demand3.{AcceptedAt, Demand3, ReceivesIt, onTheWayTo, trainsOf, vehicleAt}
 use Rattle.working.specs.Departures.{departureOf, leftSlowly}
 use Rattle.working.specs.Events.{decode}
 use Rattle.working.specs.Runs.{Done, Run, StepBy, next, stop}
-use Rattle.working.specs.Sections.{deskOf, fresh, lineOf, otherAt}
+use Rattle.working.specs.Sections.{deskOf, fresh, lineOf, otherAt, unused}
 use Rattle.working.specs.Steps.{stepOf}
 use Rattle.working.specs.WellMade.{isOpener}
-use Rattle.working.specs.declared.Answer.{Answer}
 use Rattle.working.specs.declared.Section.{Section}
 use Rattle.working.specs.declared.Station.the-variants.{A, B}
 use Rattle.working.specs.declared.Station.{Station}
 use lib.ListN.{length}
 use mathlib.Core.Bool.{false, true}
 use mathlib.Core.List.{List, [], _++_, _∷_, append-assoc, append-nil}
-use mathlib.Core.Path.{_∙_, _≡_, ap, refl, sym}
+use mathlib.Core.Path.{_∙_, _≡_, refl, sym}
 use native.Mathlib.Omega.{arith}
 
 -- ---- what every list keeps
@@ -39,11 +37,12 @@ pub record Kept (h : List Done) (s : Section) : Type 0 where
 
 kept-step : (h : List Done) (d : Done) (s t : Section) → Kept h s → StepBy (d .form) s (d .bytes) (d .answer) t → Kept (h ++ d ∷ []) t
 kept-step h d s t k b =
-    let e = step-did d s t b in
-    rw (e .1)
+    let did = step-did d s t b in
+    let sound = k .good .sound in
+    rw (did .left)
     (record {
       good = good-step s (d .bytes) (k .good);
-      told = told-change h d s (decode (d .bytes)) (stepOf s (d .bytes)) (k .good .sound) (change s (d .bytes) (k .good .sound)) refl (e .0) (k .told);
+      told = told-change h d s (decode (d .bytes)) (stepOf s (d .bytes)) sound (change s (d .bytes) sound) refl (did .answered) (k .told);
     })
 
 kept-run : (h : List Done) {s t : Section} {l : List Done} → Kept h s → Run s l t → Kept (h ++ l) t
@@ -61,14 +60,15 @@ opposite A B h = ab
 opposite B A h = ba
 opposite B B h = absurd (h refl)
 
-module _ (d e : Done) (x y : Station) (first second : Act) (p : AcceptedAt d x first) (q : AcceptedAt e y second) (other : x ≡ y → ⊥) (apart : ReceivesIt first x (d .answer) second → ⊥) where
+module _ (d e : Done) (x y : Station) (first second : Act) (p : AcceptedAt d x first) (q : AcceptedAt e y second)
+    (other : x ≡ y → ⊥) (apart : ReceivesIt first x (d .answer) second → ⊥) where
   swap-known : (t t₁ t₂ u : Section) (after : List Done) → Good t → StepDid d t t₁ → StepDid e t₁ t₂ → Run t₂ after u → Run t (e ∷ d ∷ after) u
   swap-known t t₁ t₂ u after g a b r =
-      let at : e .answer ≡ stepOf (stepOf t (d .bytes) .section) (e .bytes) .answer = b .0 ∙ ap (λ (z : Section). stepOf z (e .bytes) .answer) (a .1) in
+      let later : StepDid e (stepOf t (d .bytes) .section) t₂ = rw (a .left) at b in
       let w = swapped t (d .bytes) (e .bytes) x y (p .time) (q .time) first second (opposite x y other) (g .sound) (p .entry) (q .entry)
-      (rw (a .0) at (p .accepted)) (rw at at (q .accepted)) (λ f. apart (f .0, f .1 ∙ ap (λ (z : Answer). acts.Receive x (formIn z)) (sym (a .0)))) in
-      next (step-by (e .form) t (e .bytes) (at ∙ sym (w .first)) refl)
-      (next (step-by (d .form) (stepOf t (e .bytes) .section) (d .bytes) (a .0 ∙ sym (w .second)) (b .1 ∙ ap (λ (z : Section). stepOf z (e .bytes) .section) (a .1) ∙ sym (w .end))) r)
+      (rw (a .answered) at (p .accepted)) (rw (later .answered) at (q .accepted)) (rw (a .answered) at apart) in
+      next (step-by (e .form) t (e .bytes) (later .answered ∙ sym (w .first)) refl)
+      (next (step-by (d .form) (stepOf t (e .bytes) .section) (d .bytes) (a .answered ∙ sym (w .second)) (later .left ∙ sym (w .end))) r)
 
   swap-run : {t u : Section} {after : List Done} → Good t → Run t (d ∷ e ∷ after) u → Run t (e ∷ d ∷ after) u
   swap-run {t} {u} {after} g (next {t = t₁} h (next {t = t₂} k r)) = swap-known t t₁ t₂ u after g (step-did d t t₁ h) (step-did e t₁ t₂ k) r
@@ -84,8 +84,8 @@ demand3 {l} {s} run = record {
       (slow i (omega arith) (o .0), slow j there (o .1));
   owed = λ force x. owed x;
   swap = λ before d e after x y first second is p q other apart.
-      let r = split-run before (rw is at run) in
-      join-run (r .1) (swap-run d e x y first second p q other apart (kept (r .1) .good) (r .2));
+      let (t, front, back) = split-run before (rw is at run) in
+      join-run front (swap-run d e x y first second p q other apart (kept front .good) back);
 }
   where
     k : Kept l s
@@ -95,7 +95,7 @@ demand3 {l} {s} run = record {
     len = length-line s (k .good .sound .places) (k .good .sound .well)
 
     told : (i : ℕ) → i < s .len → Told l (vehicleAt s i)
-    told i there = every-at (Told l) (lineOf s) (k .told) i (omega (arith, len))
+    told i there = every-at (Told l) unused (lineOf s) (k .told) i (omega (arith, len))
 
     slow : (i : ℕ) → i < s .len → isOpener (vehicleAt s i .movement) ≡ true → leftSlowly (departureOf l (vehicleAt s i)) ≡ true
     slow i there opener = let t = told i there in rw (t .is) (t .slowly opener)

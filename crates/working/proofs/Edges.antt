@@ -5,11 +5,11 @@
 -- receipt for each number, and is run by the second program's generator, not written out here.
 -- Assumes nothing.
 use Prim.Native.Nat.{_+_, suc, ℕ}
+use Rattle.working.proofs.Computing.{step-computes}
 use Rattle.working.proofs.Literals.{begin, figures, meet, opens, plain, receive, resume, returns, sameSection, through, train, vehicle, working}
-use Rattle.working.specs.Entries.{entryIn, every, judge, lengthOf, mapFits, rangesHold, readAt}
-use Rattle.working.specs.Events.{decode}
-use Rattle.working.specs.Sections.{fresh, freshDesk, padTo}
-use Rattle.working.specs.Steps.{entered, stepOf}
+use Rattle.working.specs.Entries.{every}
+use Rattle.working.specs.Sections.{fresh, freshDesk}
+use Rattle.working.specs.Steps.{stepOf}
 use Rattle.working.specs.WellMade.{wellMade}
 use Rattle.working.specs.declared.Answer.the-variants.{Accepted, Refused}
 use Rattle.working.specs.declared.Answer.{Answer}
@@ -146,11 +146,11 @@ edges =
 -- ---- every row holds: the answers, and the sections after them in every figure
 
 pub edges-hold : answersTo edges ≡ expectedOf edges
-unfolding edges guest holding eleven worn met stepOf wellMade decode readAt judge mapFits rangesHold entryIn lengthOf entered padTo
+unfolding edges eleven guest holding met step-computes worn
 edges-hold = refl
 
 pub edges-leave : rowsLeavingAnother 1 edges ≡ []
-unfolding edges guest holding eleven worn met stepOf wellMade decode readAt judge mapFits rangesHold entryIn lengthOf entered padTo
+unfolding edges eleven guest holding met step-computes worn
 edges-leave = refl
 
 -- the sections that the rows find, in figures
@@ -159,17 +159,18 @@ pub edges-find :
     (sameSection begun (working 0 [] freshDesk freshDesk)
     ∷ sameSection guest (working 0 [] (figures 10 1 1 (Since 10) true 0 0 0 0) (figures 70 0 0 Stopped false 1 2 0 0))
     ∷ sameSection holding (working 0 [] (figures 95 1 0 Stopped false 0 0 2 0) (figures 75 1 1 (Since 75) false 0 0 0 2))
-    ∷ sameSection met (working 0 (vehicle (Open 1) 1 1 2 true 1 ∷ vehicle (Open 1) 2 1 2 true 1 ∷ []) (figures 1 1 1 (Since 1) true 0 0 0 0) (figures 1 1 1 (Since 1) true 0 0 0 0))
+    ∷ sameSection met
+    (working 0 (vehicle (Open 1) 1 1 2 true 1 ∷ vehicle (Open 1) 2 1 2 true 1 ∷ []) (figures 1 1 1 (Since 1) true 0 0 0 0) (figures 1 1 1 (Since 1) true 0 0 0 0))
     ∷ [])
     ≡ true
-unfolding guest holding met stepOf wellMade decode readAt judge mapFits rangesHold entryIn lengthOf entered padTo
+unfolding guest holding met step-computes
 edges-find = refl
 
 -- the section of (f) is well made, and in that of (i) B owes two line clears
 pub worn-made : wellMade worn ≡ true
-unfolding worn wellMade padTo
+unfolding step-computes worn
 worn-made = refl
 
 pub owed-at-resume : (holding .b .clears .owes ≡ 2) × (holding .len ≡ 0)
-unfolding guest holding stepOf wellMade decode readAt judge mapFits rangesHold entryIn lengthOf entered padTo
+unfolding guest holding step-computes
 owed-at-resume = (refl, refl)

@@ -1,27 +1,21 @@
 -- Demand 3 is not empty: lists, by computation, with two opposed vehicles, with a line clear on the way, and with two neighbours that change places.
 -- Assumes nothing.
-use Prim.Native.Nat.{ℕ}
+use Rattle.working.proofs.Computing.{reading-computes, step-computes}
 use Rattle.working.proofs.Demand3.{demand3}
+use Rattle.working.proofs.Line.{other-differs}
 use Rattle.working.proofs.Lists.{Todo, after, done, runs}
 use Rattle.working.proofs.Literals.{begin, opens, receive, returns}
-use Rattle.working.proofs.Swap.{isReceive}
-use Rattle.working.proofs.Tests.{false-true}
 use Rattle.working.specs.Acts as acts
-use Rattle.working.specs.Demand3.{AcceptedAt, ReceivesIt, onTheWayTo, vehicleAt}
-use Rattle.working.specs.Entries.{entryIn, judge, lengthOf, mapFits, rangesHold, readAt}
-use Rattle.working.specs.Events.{decode}
+use Rattle.working.specs.Demand3.{AcceptedAt, isDeparture, onTheWayTo, vehicleAt}
 use Rattle.working.specs.Runs.{Done, Run, byValue, inPlace}
-use Rattle.working.specs.Sections.{deskOf, fresh, numberAt, padTo}
-use Rattle.working.specs.Steps.{entered, stepOf}
-use Rattle.working.specs.WellMade.{wellMade}
+use Rattle.working.specs.Sections.{deskOf, fresh, numberAt}
 use Rattle.working.specs.declared.Answer.the-variants.{Accepted}
 use Rattle.working.specs.declared.Speed.the-variants.{Kmh, NoSpeed, Walking}
 use Rattle.working.specs.declared.Station.the-variants.{A, B}
 use Rattle.working.specs.declared.View.the-variants.{Clear, Impaired}
-use mathlib.Core.Bool.{true}
+use mathlib.Core.Bool.{true, true≢false}
 use mathlib.Core.List.{List, [], _∷_}
 use mathlib.Core.Path.{_≡_, ap, refl}
-use native.Mathlib.Omega.{arith}
 
 -- BEGIN, an OPEN from each station, A's altered in memory and B's returned
 abbrev two : List Todo
@@ -30,7 +24,7 @@ two = record { form = byValue; bytes = begin } ∷ record { form = inPlace; byte
 -- ---- two opposed vehicles
 
 opposed-there : (after fresh two .len ≡ 2) × (vehicleAt (after fresh two) 0 .heading ≡ numberAt B) × (vehicleAt (after fresh two) 1 .heading ≡ numberAt A)
-unfolding stepOf wellMade decode readAt judge mapFits rangesHold entryIn lengthOf entered padTo
+unfolding step-computes
 opposed-there = (refl, refl, refl)
 
 -- ---- a line clear on the way
@@ -42,7 +36,7 @@ granting =
     ∷ record { form = byValue; bytes = receive 2 60 1 1 } ∷ record { form = byValue; bytes = returns 2 61 2 } ∷ []
 
 on-the-way : (onTheWayTo (after fresh granting) A ≡ 2) × (deskOf (after fresh granting) B .clears .owes ≡ 2) × (after fresh granting .force ≡ true)
-unfolding stepOf wellMade decode readAt judge mapFits rangesHold entryIn lengthOf entered padTo
+unfolding step-computes
 on-the-way = (refl, refl, refl)
 
 -- ---- two neighbours that change places
@@ -57,23 +51,19 @@ abbrev begins : Done
 begins = record { form = byValue; bytes = begin; answer = Accepted 0 0 NoSpeed }
 
 is-list : done fresh two ≡ begins ∷ first ∷ second ∷ []
-unfolding stepOf wellMade decode readAt judge mapFits rangesHold entryIn lengthOf entered padTo
+unfolding step-computes
 is-list = refl
 
 first-accepted : AcceptedAt first A (acts.Open Clear 1 2)
-unfolding decode readAt judge mapFits rangesHold entryIn lengthOf
+unfolding reading-computes
 first-accepted = record { time = 5; entry = refl; accepted = refl }
 
 second-accepted : AcceptedAt second B (acts.Open Impaired 1 1)
-unfolding decode readAt judge mapFits rangesHold entryIn lengthOf
+unfolding reading-computes
 second-accepted = record { time = 9; entry = refl; accepted = refl }
 
 -- the list with the two in the other order ends in the same section
 pub swapped-list : Run fresh (begins ∷ second ∷ first ∷ []) (after fresh two)
-swapped-list = demand3 (runs fresh two) .swap (begins ∷ []) first second [] A B (acts.Open Clear 1 2) (acts.Open Impaired 1 1) is-list first-accepted second-accepted apart not-received
-  where
-    apart : A ≡ B → ⊥
-    apart e = let z : _≡_ {A = ℕ} 0 1 = cc in omega arith
-
-    not-received : ReceivesIt (acts.Open Clear 1 2) A (first .answer) (acts.Open Impaired 1 1) → ⊥
-    not-received r = false-true (ap isReceive (r .1))
+swapped-list =
+    demand3 (runs fresh two) .swap (begins ∷ []) first second [] A B (acts.Open Clear 1 2) (acts.Open Impaired 1 1) is-list first-accepted second-accepted
+    (other-differs A) (λ r. true≢false (ap isDeparture (r .1)))

@@ -1,37 +1,30 @@
 -- Every step keeps the invariant: what it says of both stations' desks and of the vehicles between them.
 -- Each case of a step is one law of the invariant, over the station's own desk and the other's.
 -- Assumes nothing.
-use Prim.Native.Nat.{ℕ, _≤_, suc}
-use Rattle.working.proofs.Changes.{Change, Sound, arrival, change, departure, emptying, meeting, nearest-of, refusal, sound-emptied, sound-step, well-arrive, well-at, well-depart}
-use Rattle.working.proofs.Invariant.{Half, Halves}
-use Rattle.working.proofs.Line.{number-other, number-same}
-use Rattle.working.proofs.Made.{Well, all-far, line-with, not-other, other-sender, shape-of, shape-rest}
-use Rattle.working.proofs.Meeting.{turn-length}
+use Prim.Native.Nat.{suc, ℕ}
+use Rattle.working.proofs.Changes.{Change, Sound, arrival, change, departure, emptying, meeting, refusal, sound-emptied, sound-step, well-at}
+use Rattle.working.proofs.Clauses.{Shape}
+use Rattle.working.proofs.Invariant.{Half, Halves, openers, quiet}
+use Rattle.working.proofs.Line.{From, every-end, not-other, number-same, ordered-far}
+use Rattle.working.proofs.Made.{Well, line-with, other-sender}
 use Rattle.working.proofs.Plans.{Departs}
-use Rattle.working.proofs.Receipts.{arrives-far, arrives-own}
+use Rattle.working.proofs.Receipts.{Receipt, keeps-far, keeps-own, of-other, of-own, receipt}
 use Rattle.working.proofs.Sides.{moves-far, moves-none, moves-own, moves-past, moves-skip, moves-turned, movesOf}
-use Rattle.working.proofs.Tests.{both, each-holds}
 use Rattle.working.specs.Acts.{Act}
-use Rattle.working.specs.Effects.{Departing, arriveDesk, otherDesk, ownDesk}
+use Rattle.working.specs.Effects.{Departing, arriveDesk}
 use Rattle.working.specs.Events.{Decoded, decode}
 use Rattle.working.specs.Reasons.{mayEnter}
-use Rattle.working.specs.Sections.{deskOf, emptied, freshDesk, insertAt, lineOf, numberAt, otherAt, withDesk, withLine}
+use Rattle.working.specs.Sections.{deskOf, emptied, freshDesk, insertAt, lineOf, otherAt, withDesk, withLine}
 use Rattle.working.specs.Steps.{metAt, stepOf, turnAt}
-use Rattle.working.specs.WellMade.{isFrom, isOpener, movementTests}
 use Rattle.working.specs.declared.Desk.{Desk}
-use Rattle.working.specs.declared.Movement.{Movement}
 use Rattle.working.specs.declared.Section.{Section}
-use Rattle.working.specs.declared.Speed.{Speed}
 use Rattle.working.specs.declared.Station.the-variants.{A, B}
 use Rattle.working.specs.declared.Station.{Station}
 use Rattle.working.specs.declared.Stepped.{Stepped}
 use Rattle.working.specs.declared.Vehicle.{Vehicle}
-use lib.Dec.{eqb}
-use lib.ListN.{length}
-use mathlib.Core.Bool.{Bool, _&&_, _||_, cond, false, not, true}
+use mathlib.Core.Bool.{Bool, true}
 use mathlib.Core.List.{List, []}
-use mathlib.Core.Path.{_≡_, refl}
-use native.Mathlib.Omega.{arith}
+use mathlib.Core.Path.{_∙_, _≡_, refl}
 
 -- the invariant seen from station x, whose desk is d, the other's o
 abbrev pub Between : Station → Desk → Desk → List Vehicle → Type 0
@@ -54,62 +47,44 @@ kept-with s B e l w h = rw (line-with 24 l (w .fits)) (record { own = h .far; fa
 kept-depart : (s : Section) (act : Act) (x : Station) (p : Departing) → Good s → Departs act x (deskOf s x) p
     → Between x (p .desk) (deskOf s (otherAt x)) (insertAt x (p .vehicle) (lineOf s))
 kept-depart s act x p g q =
-    let own : isFrom (numberAt x) (p .vehicle) ≡ true = rw (q .sender) (number-same x) in
-    let past : isFrom (numberAt (otherAt x)) (p .vehicle) ≡ false = rw (q .sender) (number-other x) in
-    rw (moves-own x (p .vehicle) (lineOf s) own, moves-past x (p .vehicle) (lineOf s) past)
+    let own : From x (p .vehicle) = rw (q .sender) (number-same x) in
+    rw (moves-own x (p .vehicle) (lineOf s) own, moves-past x (p .vehicle) (lineOf s) (not-other x (p .vehicle) own))
     (q .keeps (deskOf s (otherAt x)) (movesOf x (lineOf s)) (movesOf (otherAt x) (lineOf s)) (kept-at x s g))
 
-kept-arrive : (s : Section) (x : Station) (time : ℕ) (v : Vehicle) (l : List Vehicle) → Good s → lineOf s ≡ insertAt x v l → mayEnter x v ≡ true
-    → Between x (arriveDesk x (deskOf s x) time v) (deskOf s (otherAt x)) l
-kept-arrive s x time v l g e may = go (isFrom (numberAt x) v) refl
+kept-arrive : (x : Station) (d o : Desk) (time : ℕ) (v : Vehicle) (l : List Vehicle) → Well x d o (insertAt x v l) → Between x d o (insertAt x v l)
+    → mayEnter x v ≡ true → Between x (arriveDesk x d time v) o l
+kept-arrive x d o time v l w h may = by (receipt x d time v may)
   where
-    d : Desk
-    d = deskOf s x
-
-    o : Desk
-    o = deskOf s (otherAt x)
-
-    w : Well x d o (insertAt x v l)
-    w = rw e at (well-at s x (g .sound))
-
-    k : Between x d o (insertAt x v l)
-    k = rw e at (kept-at x s g)
-
-    go : (own : Bool) → isFrom (numberAt x) v ≡ own → Between x (cond own (ownDesk d time (v .movement)) (otherDesk d time (v .class) (v .movement))) o l
-    go true is =
-        let q : (isOpener (v .movement) && (not (v .met) || eqb (v .heading) (numberAt x))) ≡ true = rw is at may in
-        let opener = both (isOpener (v .movement)) (not (v .met) || eqb (v .heading) (numberAt x)) q .0 in
-        arrives-own d time (v .movement) opener (w .own .bounds) .1 o (movesOf x l) (movesOf (otherAt x) l)
-        (rw (moves-own x v l is, moves-past x v l (not-other x v is)) at k)
-    go false is =
-        let shape = shape-rest x d o d v l w .0 in
-        let moves = each-holds (movementTests (v .movement) (v .class)) (shape-of v shape .moves) in
-        let none-own = moves-none x l (all-far x d o d v l w is) in
+    by : {e : Desk} → Receipt x d time v e → Between x e o l
+    by (of-own is opener) =
+        keeps-own d o time (v .movement) (movesOf x l) (movesOf (otherAt x) l) opener (rw (moves-own x v l is, moves-past x v l (not-other x v is)) at h)
+    by (of-other is) =
+        let shape = every-end Shape x v l (w .shape) .1 in
+        let none-own = moves-none x l (ordered-far x v l is (w .order) .1) in
         rw none-own
-        (arrives-far d time (v .class) (v .movement) moves (w .own .bounds) .1 o (movesOf (otherAt x) l)
-        (rw (moves-skip x v l is, none-own, moves-far x v l (other-sender x v shape is)) at k))
+        (keeps-far d o time (v .class) (v .movement) (movesOf (otherAt x) l) (shape .moves)
+        (rw (moves-skip x v l is, none-own, moves-far x v l (other-sender x v shape is)) at h))
 
 -- nothing in the section, and nothing on the desks
 kept-emptied : Between A freshDesk freshDesk []
 kept-emptied = record { own = half; far = half }
   where
     half : Half freshDesk freshDesk [] []
-    half = record { sum = refl; outs = refl; guests = λ k. absurd (omega arith); holding = λ k. absurd (omega arith); row = refl; clear = refl }
+    half = quiet refl refl refl refl tt (openers tt)
 
 kept-change : (s : Section) (e : Decoded) (r : Stepped) → Good s → Change s e r → Between A (r .section .a) (r .section .b) (lineOf (r .section))
 kept-change s e r g (refusal k why) = g .kept
-kept-change s e r g (emptying k force n) = kept-emptied
-kept-change s e r g (departure x time act {p} f q) =
-    kept-with s x (p .desk) (insertAt x (p .vehicle) (lineOf s)) (well-depart s act x p (g .sound) q) (kept-depart s act x p g q)
-kept-change s e r g (arrival x time y n f named may) =
-    let q = nearest-of y n x (lineOf s) named in
-    let enters : mayEnter x (q .vehicle) ≡ true = rw (q .near) at may in
-    rw (q .near, q .rest)
-    (kept-with s x (arriveDesk x (deskOf s x) time (q .vehicle)) (q .others)
-    (well-arrive s x time (q .vehicle) (q .others) (g .sound) (q .line) enters) (kept-arrive s x time (q .vehicle) (q .others) g (q .line) enters))
-kept-change s e r g (meeting x y n i f h) =
-    let fits : length (metAt x i (lineOf s)) ≤ 24 = omega (arith, turn-length x (suc i) (turnAt x i (lineOf s)), turn-length x i (lineOf s), well-at s A (g .sound) .fits) in
-    rw (line-with 24 (metAt x i (lineOf s)) fits, moves-turned A x (suc i) (turnAt x i (lineOf s)), moves-turned B x (suc i) (turnAt x i (lineOf s)), moves-turned A x i (lineOf s), moves-turned B x i (lineOf s)) (g .kept)
+kept-change s e r g (emptying k force) = kept-emptied
+kept-change s e r g (departure x time act {p} f leaves w) = kept-with s x (p .desk) (insertAt x (p .vehicle) (lineOf s)) w (kept-depart s act x p g leaves)
+kept-change s e r g (arrival x time y n k f may w) =
+    let before = rw (k .line) at (well-at s x (g .sound)) in
+    kept-with s x (arriveDesk x (deskOf s x) time (k .vehicle)) (k .others) w
+    (kept-arrive x (deskOf s x) (deskOf s (otherAt x)) time (k .vehicle) (k .others) before (rw (k .line) at (kept-at x s g)) may)
+kept-change s e r g (meeting x y n i f w) =
+    rw (line-with 24 (metAt x i (lineOf s)) (w .fits), met A, met B) (g .kept)
+  where
+    met : (z : Station) → movesOf z (metAt x i (lineOf s)) ≡ movesOf z (lineOf s)
+    met z = moves-turned z x (suc i) (turnAt x i (lineOf s)) ∙ moves-turned z x i (lineOf s)
 
 pub good-emptied : (force : Bool) (n : ℕ) → Good (emptied force n)
 good-emptied force n = record { sound = sound-emptied force n; kept = kept-emptied }

@@ -3,13 +3,10 @@
 -- station may alter. A row has the section found, the bytes, the answer, and the section left, compared in every figure.
 -- Assumes nothing.
 use Prim.Native.Nat.{_+_, ℕ}
+use Rattle.working.proofs.Computing.{step-computes}
 use Rattle.working.proofs.Edges.{Edge, answersTo, expectedOf, refused, row, rowsLeavingAnother}
 use Rattle.working.proofs.Literals.{begin, figures, meet, opensAs, plain, receive, resume, vehicle, withClock, withOwes, working}
-use Rattle.working.specs.Entries.{entryIn, judge, lengthOf, mapFits, rangesHold, readAt}
-use Rattle.working.specs.Events.{decode}
 use Rattle.working.specs.Sections.{fresh, freshDesk, numberAt, otherAt, padTo}
-use Rattle.working.specs.Steps.{entered, stepOf}
-use Rattle.working.specs.WellMade.{wellMade}
 use Rattle.working.specs.declared.Answer.the-variants.{Accepted}
 use Rattle.working.specs.declared.Desk.{Desk}
 use Rattle.working.specs.declared.Interval.the-variants.{Since, Stopped}
@@ -125,7 +122,8 @@ receiveRefused x =
     ∷ refused (seenFrom x (own x (Train 0 0) 7 0 ∷ []) mine) (receive (numberAt x) 100 (numberAt x) 7) MayNotEnter
     ∷ refused (seenFrom x (own x (Return 0 0) 7 1 ∷ []) mine) (receive (numberAt x) 100 (numberAt x) 7) MayNotEnter
     ∷ refused (seenFrom x (vehicle Through (numberAt x) 7 (numberAt (otherAt x)) true 1 ∷ []) mine) (receive (numberAt x) 100 (numberAt x) 7) MayNotEnter
-    ∷ refused (seenFrom x (vehicle Through (numberAt (otherAt x)) 3 (numberAt (otherAt x)) true 1 ∷ []) mine) (receive (numberAt x) 100 (numberAt (otherAt x)) 3) MayNotEnter
+    ∷ refused (seenFrom x (vehicle Through (numberAt (otherAt x)) 3 (numberAt (otherAt x)) true 1 ∷ []) mine)
+    (receive (numberAt x) 100 (numberAt (otherAt x)) 3) MayNotEnter
     ∷ []
 
 -- ---- what an accepted entry does
@@ -165,7 +163,8 @@ departures x =
 
 -- a receipt at S of the vehicle nearest it; another stands behind
 abbrev arrives : Station → Vehicle → ℕ → ℕ → Desk → Edge
-arrives x v sender number after = row (seenFrom x (v ∷ coming x Through 1 ∷ []) mine) (receive (numberAt x) 100 sender number) plain (seenFrom x (coming x Through 1 ∷ []) after)
+arrives x v sender number after =
+    row (seenFrom x (v ∷ coming x Through 1 ∷ []) mine) (receive (numberAt x) 100 sender number) plain (seenFrom x (coming x Through 1 ∷ []) after)
 
 abbrev comes : Station → Desk → Vehicle → Desk → Edge
 comes x before v after = row (seenFrom x (v ∷ []) before) (receive (numberAt x) 100 (numberAt (otherAt x)) 3) plain (seenFrom x [] after)
@@ -222,21 +221,23 @@ declared =
     ∷ row (meeting (line (Open 8) 2 false Through 1 false)) (meet 1 1 1) plain (meeting (line (Open 8) 1 true Through 1 true))
     ∷ row (meeting (line Through 2 true (Open 8) 1 true)) (meet 2 1 1) plain (meeting (line Through 2 true (Open 8) 2 true))
     -- two of one sender may meet, once one of them has turned
-    ∷ row (meeting (vehicle Through 1 2 2 false 1 ∷ vehicle Through 1 1 1 true 1 ∷ [])) (meet 2 1 2) plain (meeting (vehicle Through 1 2 2 true 1 ∷ vehicle Through 1 1 2 true 1 ∷ []))
+    ∷ row (meeting (vehicle Through 1 2 2 false 1 ∷ vehicle Through 1 1 1 true 1 ∷ [])) (meet 2 1 2) plain
+    (meeting (vehicle Through 1 2 2 true 1 ∷ vehicle Through 1 1 2 true 1 ∷ []))
     ∷ []
 
 -- ---- the table holds
 
 abbrev rowsFor : Station → List Edge
-rowsFor x = openRefused x (opening x 1 1 1) ++ openRefused x (passing x 1) ++ returnRefused x ++ trainRefused x ++ receiveRefused x ++ departures x ++ receipts x
+rowsFor x =
+    openRefused x (opening x 1 1 1) ++ openRefused x (passing x 1) ++ returnRefused x ++ trainRefused x ++ receiveRefused x ++ departures x ++ receipts x
 
 abbrev kinds : List Edge
 kinds = declared ++ rowsFor A ++ rowsFor B
 
 pub kinds-hold : answersTo kinds ≡ expectedOf kinds
-unfolding stepOf wellMade decode readAt judge mapFits rangesHold entryIn lengthOf entered padTo
+unfolding step-computes
 kinds-hold = refl
 
 pub kinds-leave : rowsLeavingAnother 1 kinds ≡ []
-unfolding stepOf wellMade decode readAt judge mapFits rangesHold entryIn lengthOf entered padTo
+unfolding step-computes
 kinds-leave = refl

@@ -1,11 +1,14 @@
 pub mod Bytes
 pub mod Changes
+pub mod Clauses
+pub mod Computing
 pub mod Consequences
 pub mod Corollaries
 pub mod Counted
 pub mod Demand3
 pub mod Edges
 pub mod EntryTable
+pub mod Every
 pub mod Examples
 pub mod Fields
 pub mod FirstEntry
@@ -29,6 +32,7 @@ pub mod Ranges
 pub mod ReadAgain
 pub mod ReadThenWritten
 pub mod ReadingEnds
+pub mod Reasons
 pub mod Receipts
 pub mod Scans
 pub mod Sentences

@@ -1,8 +1,9 @@
 -- The line and its two ends. Every law is stated of `insertAt x v l`, so that it serves both stations, a departure forwards and a receipt backwards.
 -- By cases on the station, A at the front of the list and B at its back.
 -- Assumes nothing.
-use Prim.Native.Nat.{_+_, _-_, _<_, suc, zero, ℕ}
-use Rattle.working.proofs.Tests.{both, false-true}
+use Prim.Native.Nat.{_+_, _-_, _<_, _≤_, suc, zero, ℕ}
+use Rattle.working.proofs.Every.{Every, all-every, every-add, every-before}
+use Rattle.working.proofs.Tests.{both, clash}
 use Rattle.working.specs.Sections.{insertAt, nearestAt, numberAt, otherAt, removeAt, unused}
 use Rattle.working.specs.Steps.{turnAt, turned}
 use Rattle.working.specs.WellMade.{all, differ, isFrom, ordered, same, sumOver}
@@ -11,7 +12,7 @@ use Rattle.working.specs.declared.Station.{Station}
 use Rattle.working.specs.declared.Vehicle.{Vehicle}
 use borrow.Author.Tests.{eq-eqb, eqb-false, eqb-true, ne-eqb}
 use lib.Dec.{eqb}
-use lib.ListN.{getD, length, length-append}
+use lib.ListN.{length, length-append, length-drop, length-take}
 use lib.Seq.{getD-append-seam, take-append-seam}
 use mathlib.Core.Bool.{Bool, _&&_, cond, false, not, true}
 use mathlib.Core.List.{List, [], _++_, _∷_}
@@ -31,6 +32,24 @@ number-other B = refl
 pub other-number : (x : Station) → eqb (numberAt (otherAt x)) (numberAt x) ≡ false
 other-number A = refl
 other-number B = refl
+
+pub other-differs : (x : Station) → x ≡ otherAt x → ⊥
+other-differs A e = omega (arith, ap numberAt e)
+other-differs B e = omega (arith, ap numberAt e)
+
+-- v is station x's, and is not
+abbrev pub From : Station → Vehicle → Type 0
+From x v = isFrom (numberAt x) v ≡ true
+
+abbrev pub NotFrom : Station → Vehicle → Type 0
+NotFrom x v = isFrom (numberAt x) v ≡ false
+
+-- it is one's or the other's
+pub not-other : (x : Station) (v : Vehicle) → From x v → NotFrom (otherAt x) v
+not-other x v e = rw (eqb-true (v .sender) (numberAt x) e) (number-other x)
+
+pub not-own : (x : Station) (v : Vehicle) → From (otherAt x) v → NotFrom x v
+not-own x v e = rw (eqb-true (v .sender) (numberAt (otherAt x)) e) (other-number x)
 
 pub other-other : (x : Station) → otherAt (otherAt x) ≡ x
 other-other A = refl
@@ -54,25 +73,39 @@ pub remove-insert : (x : Station) (v : Vehicle) (l : List Vehicle) → removeAt 
 remove-insert A v l = refl
 remove-insert B v l = rw (last-place l v) (take-append-seam l (v ∷ []))
 
--- a line with a vehicle is an insertion at either end
-split-last : (v : Vehicle) (l : List Vehicle) → (w : Vehicle) × (t : List Vehicle) × (v ∷ l ≡ t ++ w ∷ [])
-split-last v [] = (v, [], refl)
-split-last v (u ∷ l) = let r = split-last u l in (r .0, v ∷ r .1, ap (λ (t : List Vehicle). v ∷ t) (r .2))
+-- a line with a vehicle, taken apart at a station's end
+pub record Nearest (x : Station) (l : List Vehicle) : Type 0 where
+  pub vehicle : Vehicle
+  pub others : List Vehicle
+  pub line : l ≡ insertAt x vehicle others
+  pub near : nearestAt x l ≡ vehicle
+  pub rest : removeAt x l ≡ others
+  pub size : length l ≡ suc (length others)
 
-pub split-end : (x : Station) (l : List Vehicle) → 0 < length l → (w : Vehicle) × (t : List Vehicle) × (l ≡ insertAt x w t)
-split-end x [] h = absurd (omega arith)
-split-end A (v ∷ l) h = (v, l, refl)
-split-end B (v ∷ l) h = split-last v l
+pub nearest : (x : Station) (l : List Vehicle) → 0 < length l → Nearest x l
+nearest x l h =
+    let (v, t, is) = split x l h in
+    record {
+      vehicle = v;
+      others = t;
+      line = is;
+      near = ap (nearestAt x) is ∙ nearest-insert x v t;
+      rest = ap (removeAt x) is ∙ remove-insert x v t;
+      size = ap length is ∙ insert-length x v t;
+    }
+  where
+    last : (v : Vehicle) (l : List Vehicle) → (w : Vehicle) × (t : List Vehicle) × (v ∷ l ≡ t ++ w ∷ [])
+    last v [] = (v, [], refl)
+    last v (u ∷ l) = let (w, t, is) = last u l in (w, v ∷ t, ap (v ∷_) is)
 
-pub length-remove : (x : Station) (l : List Vehicle) → 0 < length l → suc (length (removeAt x l)) ≡ length l
-length-remove x l h =
-    let q = split-end x l h in
-    let rest : removeAt x l ≡ q .1 = ap (removeAt x) (q .2) ∙ remove-insert x (q .0) (q .1) in
-    omega (arith, ap length rest, ap length (q .2), insert-length x (q .0) (q .1))
+    split : (x : Station) (l : List Vehicle) → 0 < length l → (w : Vehicle) × (t : List Vehicle) × (l ≡ insertAt x w t)
+    split x [] h = absurd (omega arith)
+    split A (v ∷ l) h = (v, l, refl)
+    split B (v ∷ l) h = last v l
 
-pub insert-comm : (x : Station) (v w : Vehicle) (l : List Vehicle) → insertAt x v (insertAt (otherAt x) w l) ≡ insertAt (otherAt x) w (insertAt x v l)
-insert-comm A v w l = refl
-insert-comm B v w l = refl
+pub remove-short : (x : Station) (l : List Vehicle) → length (removeAt x l) ≤ length l
+remove-short A l = omega (arith, length-drop 1 l)
+remove-short B l = omega (arith, length-take (length l - 1) l)
 
 -- ---- predicates on the line
 
@@ -91,7 +124,7 @@ sum-insert f A v l = refl
 sum-insert f B v [] = refl
 sum-insert f B v (u ∷ l) = omega (arith, sum-insert f B v l)
 
-eqb-sym : (m n : ℕ) → eqb m n ≡ eqb n m
+pub eqb-sym : (m n : ℕ) → eqb m n ≡ eqb n m
 eqb-sym m n = go (eqb n m) refl
   where
     go : (b : Bool) → eqb n m ≡ b → eqb m n ≡ b
@@ -119,7 +152,7 @@ ordered-own A v l e = rw (eq-eqb (v .sender) 1 e)
 ordered-own B v [] e = rw e
 ordered-own B v (u ∷ l) e =
     ap₂ (cond (isFrom 1 u)) (ordered-own B v l e)
-    (ap (λ (b : Bool). isFrom 2 u && b) (all-insert (isFrom 2) B v l ∙ rw (eq-eqb (v .sender) 2 e)))
+    (ap (isFrom 2 u &&_) (all-insert (isFrom 2) B v l ∙ rw (eq-eqb (v .sender) 2 e)))
 
 from-two-ordered : (l : List Vehicle) → all (isFrom 2) l ≡ true → ordered l ≡ true
 from-two-ordered [] e = refl
@@ -129,50 +162,34 @@ from-two-ordered (v ∷ l) e =
     rw (q, e)
 
 -- behind a vehicle of the other station there is only the other station's
-pub ordered-far : (x : Station) (v : Vehicle) (l : List Vehicle) → isFrom (numberAt x) v ≡ false → ordered (insertAt x v l) ≡ true
-    → (ordered l ≡ true) × (all (isFrom (numberAt (otherAt x))) l ≡ true)
+pub ordered-far : (x : Station) (v : Vehicle) (l : List Vehicle) → NotFrom x v → ordered (insertAt x v l) ≡ true
+    → (ordered l ≡ true) × Every (From (otherAt x)) l
 ordered-far A v l e h =
     let q : (isFrom 2 v && all (isFrom 2) l) ≡ true = rw e at h in
     let r = both (isFrom 2 v) (all (isFrom 2) l) q .1 in
-    (from-two-ordered l r, r)
-ordered-far B v [] e h = (refl, refl)
-ordered-far B v (u ∷ l) e h = go (λ k. ordered-far B v l e k) (isFrom 1 u) refl
+    (from-two-ordered l r, all-every (isFrom 2) (From B) (λ u from. from) l r)
+ordered-far B v [] e h = (refl, tt)
+ordered-far B v (u ∷ l) e h = by (ordered-far B v l e) (isFrom 1 u) refl
   where
-    go : (ordered (l ++ v ∷ []) ≡ true → (ordered l ≡ true) × (all (isFrom 1) l ≡ true))
-        → (b : Bool) → isFrom 1 u ≡ b → (ordered (u ∷ l) ≡ true) × (all (isFrom 1) (u ∷ l) ≡ true)
-    go more true p =
-        let r = more (rw p at h) in
-        (rw p (r .0), rw p (r .1))
-    go more false p =
+    by : (ordered (l ++ v ∷ []) ≡ true → (ordered l ≡ true) × Every (From A) l) → (b : Bool) → isFrom 1 u ≡ b
+        → (ordered (u ∷ l) ≡ true) × Every (From A) (u ∷ l)
+    by more true p = let r = more (rw p at h) in (rw p (r .0), (p, r .1))
+    by more false p =
         let q : (isFrom 2 u && all (isFrom 2) (l ++ v ∷ [])) ≡ true = rw p at h in
         let r : (isFrom 2 v && all (isFrom 2) l) ≡ true = rw (all-insert (isFrom 2) B v l) at (both (isFrom 2 u) (all (isFrom 2) (l ++ v ∷ [])) q .1) in
-        absurd (false-true (sym e ∙ both (isFrom 2 v) (all (isFrom 2) l) r .0))
+        absurd (clash (both (isFrom 2 v) (all (isFrom 2) l) r .0) e)
 
 -- ---- a statement about every vehicle of a line
 
-abbrev pub Every : (Vehicle → Type 0) → List Vehicle → Type 0
-Every P [] = Unit {0}
-Every P (v ∷ l) = P v × Every P l
-
-pub every-at : (P : Vehicle → Type 0) (l : List Vehicle) → Every P l → (i : ℕ) → i < length l → P (getD l i unused)
-every-at P [] h i k = absurd (omega arith)
-every-at P (v ∷ l) h zero k = h .0
-every-at P (v ∷ l) h (suc i) k = every-at P l (h .1) i (omega arith)
-
 module _ (P : Vehicle → Type 0) where
-  pub every-map : (Q : Vehicle → Type 0) → ((v : Vehicle) → P v → Q v) → (l : List Vehicle) → Every P l → Every Q l
-  every-map Q f [] h = tt
-  every-map Q f (v ∷ l) h = (f v (h .0), every-map Q f l (h .1))
-
   pub every-insert : (x : Station) (v : Vehicle) (l : List Vehicle) → P v → Every P l → Every P (insertAt x v l)
   every-insert A v l p h = (p, h)
-  every-insert B v [] p h = (p, tt)
-  every-insert B v (u ∷ l) p h = (h .0, every-insert B v l p (h .1))
+  every-insert B v l p h = every-add P l v h p
 
-  pub every-rest : (x : Station) (v : Vehicle) (l : List Vehicle) → Every P (insertAt x v l) → Every P l
-  every-rest A v l h = h .1
-  every-rest B v [] h = tt
-  every-rest B v (u ∷ l) h = (h .0, every-rest B v l (h .1))
+  -- the one at x's end, and the rest
+  pub every-end : (x : Station) (v : Vehicle) (l : List Vehicle) → Every P (insertAt x v l) → Every P l × P v
+  every-end A v l h = (h .1, h .0)
+  every-end B v l h = every-before P l v h
 
   pub every-turn : (z : Station) → ((v : Vehicle) → P v → P (turned z v)) → (i : ℕ) (l : List Vehicle) → Every P l → Every P (turnAt z i l)
   every-turn z f i [] h = tt

@@ -10,17 +10,19 @@ use mathlib.Core.List.{List, [], _++_, _∷_}
 use mathlib.Core.Path.{_∙_, _≡_, ap, ap₂, refl}
 
 -- what a step did, whatever its form
-abbrev pub StepDid : Done → Section → Section → Type 0
-StepDid d s t = (d .answer ≡ stepOf s (d .bytes) .answer) × (t ≡ stepOf s (d .bytes) .section)
+pub record StepDid (d : Done) (s t : Section) : Type 0 where
+  pub answered : d .answer ≡ stepOf s (d .bytes) .answer
+  pub left : t ≡ stepOf s (d .bytes) .section
 
 pub step-did : (d : Done) (s t : Section) → StepBy (d .form) s (d .bytes) (d .answer) t → StepDid d s t
-step-did d s t h = go (d .form) h
+step-did d s t h = by (d .form) h
   where
-    go : (f : Form) → StepBy f s (d .bytes) (d .answer) t → StepDid d s t
-    go byValue h = (ap (λ (r : Stepped). r .answer) h, ap (λ (r : Stepped). r .section) h)
-    go inPlace h = h
+    by : (f : Form) → StepBy f s (d .bytes) (d .answer) t → StepDid d s t
+    by byValue h = record { answered = ap (λ (r : Stepped). r .answer) h; left = ap (λ (r : Stepped). r .section) h }
+    by inPlace h = record { answered = h .0; left = h .1 }
 
-pub step-by : (f : Form) (s : Section) (bytes : List ℕ) {a : Answer} {t : Section} → a ≡ stepOf s bytes .answer → t ≡ stepOf s bytes .section → StepBy f s bytes a t
+pub step-by : (f : Form) (s : Section) (bytes : List ℕ) {a : Answer} {t : Section} → a ≡ stepOf s bytes .answer
+    → t ≡ stepOf s bytes .section → StepBy f s bytes a t
 step-by byValue s bytes p q = λ i. record { answer = p i; section = q i }
 step-by inPlace s bytes p q = (p, q)
 
@@ -28,12 +30,12 @@ step-by inPlace s bytes p q = (p, q)
 pub each-result : {s t : Section} {l : List Done} (r : Run s l t) → results r ≡ resultsOf s l
 each-result stop = refl
 each-result (next {s} {t} {d = d} {l = l} h r) =
-    let e = step-did d s t h in
-    ap₂ (λ (a : Stepped) (k : List Stepped). a ∷ k) (λ i. record { answer = e .0 i; section = e .1 i }) (each-result r ∙ ap (λ (z : Section). resultsOf z l) (e .1))
+    let did = step-did d s t h in
+    ap₂ _∷_ (λ i. record { answer = did .answered i; section = did .left i }) (each-result r ∙ ap (λ (z : Section). resultsOf z l) (did .left))
 
 pub split-run : (before : List Done) {s u : Section} {l : List Done} → Run s (before ++ l) u → (t : Section) × Run s before t × Run t l u
 split-run [] {s} r = (s, stop, r)
-split-run (d ∷ before) (next h r) = let q = split-run before r in (q .0, next h (q .1), q .2)
+split-run (d ∷ before) (next h r) = let (t, first, later) = split-run before r in (t, next h first, later)
 
 pub join-run : {before l : List Done} {s t u : Section} → Run s before t → Run t l u → Run s (before ++ l) u
 join-run stop r = r

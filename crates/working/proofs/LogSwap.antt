@@ -4,8 +4,8 @@
 -- Assumes nothing.
 use Prim.Native.Nat.{ℕ}
 use Rattle.working.proofs.FirstEntry.{IsEntry}
-use Rattle.working.proofs.OwnBytes.{Follow, Part, cut-short, follow-joined, joined, log-follows, own-demand3, whole-entry}
-use Rattle.working.proofs.ReadAgain.{Readable, log-readable, read-again}
+use Rattle.working.proofs.OwnBytes.{Follow, Own, Part, and-then, cut-short, follow-joined, joined, log-follows, own-demand3, whole-entry}
+use Rattle.working.proofs.ReadAgain.{Readable, log-readable, one-more, read-again}
 use Rattle.working.specs.Acts.{Act}
 use Rattle.working.specs.Demand3.{ReceivesIt}
 use Rattle.working.specs.Entries.{goesOn, readAt}
@@ -13,7 +13,6 @@ use Rattle.working.specs.Events.{At, Event, Says, decode, decodedAs}
 use Rattle.working.specs.Runs.{Done, Form, byValue, stepFor, stepsOf}
 use Rattle.working.specs.Sections.{fresh}
 use Rattle.working.specs.Turns.{AcceptedIn, Turn, answersIn, behind, changedAbout, ownBytes, sectionAfter, turnsOf}
-use Rattle.working.specs.declared.Answer.{Answer}
 use Rattle.working.specs.declared.Read.the-variants.{End, Refused, Whole}
 use Rattle.working.specs.declared.Read.{Read}
 use Rattle.working.specs.declared.Section.{Section}
@@ -44,9 +43,9 @@ not-last (b ∷ before) d l h = let z : _≡_ {A = ℕ} 0 1 = cc in omega arith
 
 module _ (f : Form) (d e : Done) (first second : Event) (after : List Done) (p : decode (d .bytes) ≡ Says first) (q : decode (e .bytes) ≡ Says second) where
   swap-readable : (before : List Done) → Readable f (before ++ d ∷ e ∷ after) → Readable f (before ++ e ∷ d ∷ after)
-  swap-readable [] h =
-      (h .2 .0, whole-entry (says-whole (e .bytes) second after q (h .2 .1)), (h .0, whole-entry (says-whole (d .bytes) first (e ∷ after) p (h .1)), h .2 .2))
-  swap-readable (b ∷ before) h = (h .0, by-part (h .1), swap-readable before (h .2))
+  swap-readable [] (one-more form part (one-more form₁ part₁ later)) =
+      one-more form₁ (whole-entry (says-whole (e .bytes) second after q part₁)) (one-more form (whole-entry (says-whole (d .bytes) first (e ∷ after) p part)) later)
+  swap-readable (b ∷ before) (one-more form part later) = one-more form (by-part part) (swap-readable before later)
     where
       by-part : Part (b .bytes) (before ++ d ∷ e ∷ after) → Part (b .bytes) (before ++ e ∷ d ∷ after)
       by-part (whole-entry is) = whole-entry is
@@ -54,17 +53,37 @@ module _ (f : Form) (d e : Done) (first second : Event) (after : List Done) (p :
 
 joined-append : (before l : List Done) → joined (before ++ l) ≡ joined before ++ joined l
 joined-append [] l = refl
-joined-append (b ∷ before) l = ap (λ (k : List ℕ). b .bytes ++ k) (joined-append before l) ∙ sym (append-assoc (b .bytes) (joined before) (joined l))
+joined-append (b ∷ before) l = ap (b .bytes ++_) (joined-append before l) ∙ sym (append-assoc (b .bytes) (joined before) (joined l))
 
 -- ---- where two neighbours stand in the log
 
--- the turns up to t, and from t on
-up-to : (f : Form) (log : List ℕ) (before : List Turn) (t : Turn) (l : List Turn) (s : Section) (at : ℕ) → Follow log s at (before ++ t ∷ l)
-    → (v : Section) × Follow log v (t .at) (t ∷ l) × (joined (map (stepFor f log) before) ++ drop (t .at) log ≡ drop at log)
-up-to f log [] t l s at h = (s, subst (λ (n : ℕ). Follow log s n (t ∷ l)) (sym (h .0 .here)) h, ap (λ (n : ℕ). drop n log) (h .0 .here))
-up-to f log (b ∷ before) t l s at h =
-    let q = up-to f log before t l (b .after) (behind log b) (h .2) in
-    (q .0, q .1, append-assoc (ownBytes log b) (joined (map (stepFor f log) before)) (drop (t .at) log) ∙ ap (λ (k : List ℕ). ownBytes log b ++ k) (q .2) ∙ sym (h .0 .parts))
+-- the turns up to t and u, these two, and those behind them
+record Neighbours (f : Form) (log : List ℕ) (at : ℕ) (before : List Turn) (t u : Turn) (after : List Turn) : Type 0 where
+  from : Section
+  first : Own log from (t .at) t
+  second : Own log (t .after) (behind log t) u
+  later : Follow log (u .after) (behind log u) after
+  bytes : joined (map (stepFor f log) before) ++ drop (t .at) log ≡ drop at log
+
+neighbours-in : (f : Form) (log : List ℕ) (before : List Turn) {t u : Turn} {after : List Turn} {s : Section} {at : ℕ}
+    → Follow log s at (before ++ t ∷ u ∷ after)
+    → Neighbours f log at before t u after
+neighbours-in f log [] {t} {s = s} (and-then own part (and-then own₁ part₁ later)) = record {
+  from = s;
+  first = subst (λ (n : ℕ). Own log s n t) (sym (own .here)) own;
+  second = own₁;
+  later = later;
+  bytes = ap (λ (n : ℕ). drop n log) (own .here);
+}
+neighbours-in f log (b ∷ before) {t} (and-then own part later) =
+    let k = neighbours-in f log before later in
+    record {
+      from = k .from;
+      first = k .first;
+      second = k .second;
+      later = k .later;
+      bytes = append-assoc (ownBytes log b) (joined (map (stepFor f log) before)) (drop (t .at) log) ∙ ap (ownBytes log b ++_) (k .bytes) ∙ sym (own .parts);
+    }
 
 module _ (f : Form) (log : List ℕ) (before : List Turn) (t u : Turn) (after : List Turn) (is : turnsOf fresh log ≡ before ++ t ∷ u ∷ after) where
   abbrev head : List Done
@@ -73,28 +92,19 @@ module _ (f : Form) (log : List ℕ) (before : List Turn) (t u : Turn) (after : 
   abbrev tail : List Done
   tail = map (stepFor f log) after
 
-  follows : Follow log fresh 0 (before ++ t ∷ u ∷ after)
-  follows = subst (Follow log fresh 0) is (log-follows fresh log)
-
-  from-there : (v : Section) × Follow log v (t .at) (t ∷ u ∷ after) × (joined head ++ drop (t .at) log ≡ log)
-  from-there = up-to f log before t (u ∷ after) fresh 0 follows
-
-  before-bytes : joined head ≡ take (t .at) log
-  before-bytes = append-cancel-right (joined head) (take (t .at) log) (drop (t .at) log) (from-there .2 ∙ sym (take-append-drop (t .at) log))
-
-  after-bytes : joined tail ≡ drop (behind log u) log
-  after-bytes = follow-joined f log after (u .after) (behind log u) (from-there .1 .2 .2)
+  there : Neighbours f log 0 before t u after
+  there = neighbours-in f log before (subst (Follow log fresh 0) is (log-follows fresh log))
 
   -- the two stand side by side
   pub neighbours : log ≡ take (t .at) log ++ (ownBytes log t ++ (ownBytes log u ++ drop (behind log u) log))
-  neighbours =
-      sym (take-append-drop (t .at) log)
-      ∙ ap (λ (k : List ℕ). take (t .at) log ++ k) (from-there .1 .0 .parts ∙ ap (λ (k : List ℕ). ownBytes log t ++ k) (from-there .1 .2 .0 .parts))
+  neighbours = sym (take-append-drop (t .at) log) ∙ ap (take (t .at) log ++_) (there .first .parts ∙ ap (ownBytes log t ++_) (there .second .parts))
 
   changed-joined : joined (head ++ stepFor f log u ∷ stepFor f log t ∷ tail) ≡ changedAbout log t u
   changed-joined =
+      let first : joined head ≡ take (t .at) log =
+      append-cancel-right (joined head) (take (t .at) log) (drop (t .at) log) (there .bytes ∙ sym (take-append-drop (t .at) log)) in
       joined-append head (stepFor f log u ∷ stepFor f log t ∷ tail)
-      ∙ ap₂ (λ (k l : List ℕ). k ++ (ownBytes log u ++ (ownBytes log t ++ l))) before-bytes after-bytes
+      ∙ ap₂ (λ (k l : List ℕ). k ++ (ownBytes log u ++ (ownBytes log t ++ l))) first (follow-joined f log (there .later))
 
 -- ---- the theorem
 
@@ -112,21 +122,18 @@ pub log-swap : LogSwap
 log-swap f log before t u after x y first second is p q other apart =
     let d : Done = stepFor f log t in
     let e : Done = stepFor f log u in
-    let there = from-there f log before t u after is .1 in
-    let says-t : decode (ownBytes log t) ≡ Says (At x (p .time) first) = there .0 .said ∙ p .entry in
-    let says-u : decode (ownBytes log u) ≡ Says (At y (q .time) second) = there .2 .0 .said ∙ q .entry in
-    let listed : stepsOf f fresh log ≡ map (stepFor f log) before ++ d ∷ e ∷ map (stepFor f log) after = ap (map (stepFor f log)) is ∙ map-append (stepFor f log) before (t ∷ u ∷ after) in
-    let run = own-demand3 f log .swap (map (stepFor f log) before) d e (map (stepFor f log) after) x y first second listed
+    let front = map (stepFor f log) before in
+    let back = map (stepFor f log) after in
+    let k = there f log before t u after is in
+    let says-t : decode (ownBytes log t) ≡ Says (At x (p .time) first) = k .first .said ∙ p .entry in
+    let says-u : decode (ownBytes log u) ≡ Says (At y (q .time) second) = k .second .said ∙ q .entry in
+    let listed : stepsOf f fresh log ≡ front ++ d ∷ e ∷ back = ap (map (stepFor f log)) is ∙ map-append (stepFor f log) before (t ∷ u ∷ after) in
+    let run = own-demand3 f log .swap front d e back x y first second listed
     (record { time = p .time; entry = says-t; accepted = p .accepted }) (record { time = q .time; entry = says-u; accepted = q .accepted }) other apart in
-    let readable = swap-readable f d e (At x (p .time) first) (At y (q .time) second) (map (stepFor f log) after) says-t says-u (map (stepFor f log) before)
-    (subst (Readable f) listed (log-readable f fresh log)) in
-    rw (changed-joined f log before t u after is) at (read-again f (map (stepFor f log) before ++ e ∷ d ∷ map (stepFor f log) after) fresh (sectionAfter fresh (turnsOf fresh log)) readable run)
+    let readable = swap-readable f d e (At x (p .time) first) (At y (q .time) second) back says-t says-u front (subst (Readable f) listed (log-readable f fresh log)) in
+    rw (changed-joined f log before t u after is) at (read-again f readable run)
 
 -- ---- the same, said of the parts of a log
-
--- the answers of some turns' steps are theirs
-answers-of : (f : Form) (log : List ℕ) (l : List Turn) → map (λ (d : Done). d .answer) (map (stepFor f log) l) ≡ answersIn l
-answers-of f log l = map-map (λ (d : Done). d .answer) (stepFor f log) l
 
 -- two parts of a log that are neighbouring entries' own bytes change places: the same answers with those two changed about, and the same section
 abbrev pub PartsSwap : Type 0
@@ -141,17 +148,11 @@ PartsSwap =
 pub parts-swap : PartsSwap
 parts-swap p a b q before t u after x y first second is at own-t own-u ok-t ok-u other apart =
     let log : List ℕ = p ++ (a ++ (b ++ q)) in
-    let changed : List ℕ = changedAbout log t u in
     let behind-u : List ℕ = drop (behind log u) log in
     let head : take (t .at) log ≡ p = take-at p (a ++ (b ++ q)) (t .at) (sym at) in
-    let stand : log ≡ p ++ (a ++ (b ++ behind-u)) =
-    neighbours byValue log before t u after is ∙ ap₂ (λ (k l : List ℕ). k ++ (l ++ (ownBytes log u ++ behind-u))) head own-t ∙ ap (λ (k : List ℕ). p ++ (a ++ (k ++ behind-u))) own-u in
-    let tail : q ≡ behind-u = append-cancel-left b q behind-u (append-cancel-left a (b ++ q) (b ++ behind-u) (append-cancel-left p (a ++ (b ++ q)) (a ++ (b ++ behind-u)) stand)) in
-    let is-changed : changed ≡ p ++ (b ++ (a ++ q)) =
-    ap₂ (λ (k l : List ℕ). k ++ (l ++ (ownBytes log t ++ behind-u))) head own-u ∙ ap₂ (λ (k l : List ℕ). p ++ (b ++ (k ++ l))) own-t (sym tail) in
-    let swapped = log-swap byValue log before t u after x y first second is ok-t ok-u other apart in
-    let answers : answersIn (turnsOf fresh changed) ≡ answersIn before ++ u .answer ∷ t .answer ∷ answersIn after =
-    sym (answers-of byValue changed (turnsOf fresh changed)) ∙ ap (map (λ (d : Done). d .answer)) (swapped .0)
-    ∙ map-append (λ (d : Done). d .answer) (map (stepFor byValue log) before) (stepFor byValue log u ∷ stepFor byValue log t ∷ map (stepFor byValue log) after)
-    ∙ ap₂ (λ (k l : List Answer). k ++ u .answer ∷ t .answer ∷ l) (answers-of byValue log before) (answers-of byValue log after) in
-    (ap (λ (k : List ℕ). answersIn (turnsOf fresh k)) (sym is-changed) ∙ answers, ap (λ (k : List ℕ). sectionAfter fresh (turnsOf fresh k)) (sym is-changed) ∙ swapped .1)
+    let stand : log ≡ p ++ (a ++ (b ++ behind-u)) = rw (head, own-t, own-u) at (neighbours byValue log before t u after is) in
+    let behind-p = append-cancel-left p (a ++ (b ++ q)) (a ++ (b ++ behind-u)) stand in
+    let tail : q ≡ behind-u = append-cancel-left b q behind-u (append-cancel-left a (b ++ q) (b ++ behind-u) behind-p) in
+    let changed : changedAbout log t u ≡ p ++ (b ++ (a ++ q)) = rw (head, own-u, own-t, ← tail) in
+    let swapped = rw changed at (log-swap byValue log before t u after x y first second is ok-t ok-u other apart) in
+    (simp (map-append, map-map) at (ap (map (λ (d : Done). d .answer)) (swapped .0)), swapped .1)

@@ -4,13 +4,11 @@
 -- The paper's figures stand in the rows as they are, so that a misreading that definition and code share shows here.
 -- Assumes nothing.
 use Prim.Native.Nat.{suc, ℕ}
+use Rattle.working.proofs.Computing.{step-computes}
 use Rattle.working.proofs.Literals.{figures, vehicle, withAsked, withClock, withGuest, withHolds, withInterval, withLast, withOut, withOwes, withSent, working}
-use Rattle.working.specs.Events.{decode}
-use Rattle.working.specs.Entries.{lengthOf, readAt}
 use Rattle.working.specs.Refusals.{numberOf}
 use Rattle.working.specs.Sections.{freshDesk, numberAt, otherAt, padTo}
-use Rattle.working.specs.Steps.{entered, stepOf}
-use Rattle.working.specs.WellMade.{wellMade}
+use Rattle.working.specs.Steps.{stepOf}
 use Rattle.working.specs.declared.Answer.the-variants.{Accepted, Refused}
 use Rattle.working.specs.declared.Answer.{Answer}
 use Rattle.working.specs.declared.Desk.{Desk}
@@ -221,15 +219,15 @@ afterEach (s ∷ l) = stepOf s [] .section ∷ afterEach l
 
 -- each of 106 sections is answered 5
 pub all-five : (rowsNot 5 1 illMade ≡ []) × (length illMade ≡ 106)
-unfolding stepOf wellMade decode readAt lengthOf entered padTo
+unfolding step-computes
 all-five = (refl, refl)
 
 -- "5 and 23: nothing" is altered
 pub five-alters-nothing : afterEach illMade ≡ illMade
-unfolding stepOf wellMade padTo
+unfolding step-computes
 five-alters-nothing = refl
 
 -- each of 48 sections is answered as no bytes are: 1, and not 5
 pub none-five : (rowsNot 1 1 atLimits ≡ []) × (length atLimits ≡ 48)
-unfolding stepOf wellMade decode readAt lengthOf entered padTo
+unfolding step-computes
 none-five = (refl, refl)

@@ -1,11 +1,13 @@
 -- MEET alters heading and met alone: every clause that reads neither stays, and the two vehicles, OPEN or THROUGH, stay well made.
 -- Assumes nothing.
 use Prim.Native.Nat.{_+_, suc, zero, ℕ}
-use Rattle.working.proofs.Made.{DeskMade, Well, shape-of}
-use Rattle.working.proofs.Tests.{and, both}
+use Rattle.working.proofs.Clauses.{DeskMade, Numbered, Shape}
+use Rattle.working.proofs.Every.{Every}
+use Rattle.working.proofs.Line.{every-turn}
+use Rattle.working.proofs.Made.{Well}
 use Rattle.working.specs.Sections.{numberAt, otherAt, unused}
 use Rattle.working.specs.Steps.{turnAt, turned}
-use Rattle.working.specs.WellMade.{all, differ, isFrom, isOpener, numbered, oneIf, ordered, same, shaped, sumOver}
+use Rattle.working.specs.WellMade.{all, differ, isFrom, isOpener, oneIf, ordered, same, sumOver}
 use Rattle.working.specs.declared.Desk.{Desk}
 use Rattle.working.specs.declared.Station.the-variants.{A, B}
 use Rattle.working.specs.declared.Station.{Station}
@@ -20,8 +22,8 @@ use native.Mathlib.Omega.{arith}
 module _ (z : Station) where
   pub turn-all : (p : Vehicle → Bool) → ((v : Vehicle) → p (turned z v) ≡ p v) → (i : ℕ) (l : List Vehicle) → all p (turnAt z i l) ≡ all p l
   turn-all p e i [] = refl
-  turn-all p e zero (v ∷ l) = ap (λ (b : Bool). b && all p l) (e v)
-  turn-all p e (suc i) (v ∷ l) = ap (λ (b : Bool). p v && b) (turn-all p e i l)
+  turn-all p e zero (v ∷ l) = ap (_&& all p l) (e v)
+  turn-all p e (suc i) (v ∷ l) = ap (p v &&_) (turn-all p e i l)
 
   pub turn-sum : (f : Vehicle → ℕ) → ((v : Vehicle) → f (turned z v) ≡ f v) → (i : ℕ) (l : List Vehicle) → sumOver f (turnAt z i l) ≡ sumOver f l
   turn-sum f e i [] = refl
@@ -37,35 +39,29 @@ module _ (z : Station) where
   pub turn-set : (i : ℕ) (l : List Vehicle) → turnAt z i l ≡ set l i (turned z (getD l i unused))
   turn-set i [] = refl
   turn-set zero (v ∷ l) = refl
-  turn-set (suc i) (v ∷ l) = ap (λ (k : List Vehicle). v ∷ k) (turn-set i l)
+  turn-set (suc i) (v ∷ l) = ap (v ∷_) (turn-set i l)
 
   turn-ordered : (i : ℕ) (l : List Vehicle) → ordered (turnAt z i l) ≡ ordered l
   turn-ordered i [] = refl
   turn-ordered zero (v ∷ l) = refl
-  turn-ordered (suc i) (v ∷ l) = ap₂ (cond (isFrom 1 v)) (turn-ordered i l) (ap (λ (b : Bool). isFrom 2 v && b) (turn-all (isFrom 2) (λ u. refl) i l))
+  turn-ordered (suc i) (v ∷ l) = ap₂ (cond (isFrom 1 v)) (turn-ordered i l) (ap (isFrom 2 v &&_) (turn-all (isFrom 2) (λ u. refl) i l))
 
   turn-differ : (i : ℕ) (l : List Vehicle) → differ (turnAt z i l) ≡ differ l
   turn-differ i [] = refl
   turn-differ zero (v ∷ l) = refl
   turn-differ (suc i) (v ∷ l) = ap₂ _&&_ (turn-all (λ w. not (same v w)) (λ u. refl) i l) (turn-differ i l)
 
-  turned-shape : (v : Vehicle) → shaped v ≡ true → isOpener (v .movement) ≡ true → shaped (turned z v) ≡ true
-  turned-shape v h o =
-      let p = shape-of v h in
-      rw (p .sender, o, p .moves) (heads z)
+  turned-shape : (v : Vehicle) → Shape v → isOpener (v .movement) ≡ true → Shape (turned z v)
+  turned-shape v h o = record { sender = h .sender; heading = heads z; away = refl; unmet = rw o; moves = h .moves }
     where
-      heads : (z : Station) → ((eqb (numberAt z) 1 || eqb (numberAt z) 2) && true) ≡ true
+      heads : (z : Station) → (eqb (numberAt z) 1 || eqb (numberAt z) 2) ≡ true
       heads A = refl
       heads B = refl
 
-  turn-shape : (i : ℕ) (l : List Vehicle) → all shaped l ≡ true → isOpener (getD l i unused .movement) ≡ true → all shaped (turnAt z i l) ≡ true
-  turn-shape i [] h o = refl
-  turn-shape zero (v ∷ l) h o =
-      let p = both (shaped v) (all shaped l) h in
-      and (shaped (turned z v)) (all shaped l) (turned-shape v (p .0) o) (p .1)
-  turn-shape (suc i) (v ∷ l) h o =
-      let p = both (shaped v) (all shaped l) h in
-      and (shaped v) (all shaped (turnAt z i l)) (p .0) (turn-shape i l (p .1) o)
+  turn-shape : (i : ℕ) (l : List Vehicle) → Every Shape l → isOpener (getD l i unused .movement) ≡ true → Every Shape (turnAt z i l)
+  turn-shape i [] h o = tt
+  turn-shape zero (v ∷ l) h o = (turned-shape v (h .0) o, h .1)
+  turn-shape (suc i) (v ∷ l) h o = (h .0, turn-shape i l (h .1) o)
 
   pub turn-left-on : (i j : ℕ) (l : List Vehicle) → getD (turnAt z i l) j unused .movement ≡ getD l j unused .movement
   turn-left-on i j [] = refl
@@ -80,10 +76,12 @@ module _ (z : Station) where
     sent = m .sent;
     present = omega (arith, turn-sum (λ v. oneIf (isFrom n v)) (λ v. refl) i l, m .present);
     bounds = m .bounds;
-    number = turn-all (numbered n (d .last)) (λ v. refl) i l ∙ m .number;
+    interval = m .interval;
+    number = every-turn (Numbered n (d .last)) z (λ v number. number) i l (m .number);
   }
 
-  pub well-turn : (x : Station) (d o : Desk) (i : ℕ) (l : List Vehicle) → Well x d o l → isOpener (getD l i unused .movement) ≡ true → Well x d o (turnAt z i l)
+  pub well-turn : (x : Station) (d o : Desk) (i : ℕ) (l : List Vehicle) → Well x d o l → isOpener (getD l i unused .movement) ≡ true
+      → Well x d o (turnAt z i l)
   well-turn x d o i l w h = record {
     fits = omega (arith, turn-length i l, w .fits);
     shape = turn-shape i l (w .shape) h;

@@ -1,41 +1,61 @@
 -- What a taken entry's ranges say of its act: the class and what is asked and granted lie where document 01 has them.
 -- The kind fixes which bits stand, and a field that is there lies in its range.
 -- Assumes nothing.
-use Prim.Native.Nat.{ℕ, _+_}
+use Prim.Native.Nat.{_+_, _≤_, ℕ}
+use Rattle.working.proofs.Clauses.{Carried, Few}
 use Rattle.working.proofs.Found.{Found, cut, found, the-end, whole}
-use Rattle.working.proofs.Tests.{Each, both, each-holds, none-holds}
+use Rattle.working.proofs.Judged.{taken}
+use Rattle.working.proofs.Tests.{both}
 use Rattle.working.specs.Acts as acts
 use Rattle.working.specs.Acts.{Act}
-use Rattle.working.specs.Entries.{bitFits, entryIn, entryTests, inRange, judge, lengthOf, mapFits, mapIn, rangeTests, rangesHold, readAs, rowOf, stands}
+use Rattle.working.specs.Entries.{Row, bitFits, entryIn, inRange, isIn, judge, lengthOf, mapFits, mapIn, readAs, rowFits, rowOf, stands}
 use Rattle.working.specs.Events.{At, Bad, Begin, Decoded, Event, Meet, Resume, Says, decode, decodedAs, eventOf}
 use Rattle.working.specs.declared.Entry.{Entry}
 use Rattle.working.specs.declared.Refusal.{Refusal}
 use Rattle.working.specs.declared.Verdict.the-variants.{Allowed, Refused}
 use Rattle.working.specs.declared.Verdict.{Verdict}
-use borrow.Author.Tests.{eqb-true, le-leb, not-false}
+use borrow.Author.Tests.{eqb-true, leb-true}
 use lib.Dec.{eqb, leb}
-use mathlib.Core.Bool.{Bool, _&&_, cond, false, true}
+use mathlib.Core.Bool.{Bool, _||_, cond, false, false≢true, true}
 use mathlib.Core.List.{List, [], _∷_}
 use mathlib.Core.Path.{_∙_, _≡_, ap, refl, subst, sym}
 use native.Mathlib.Omega.{arith}
 
-abbrev pub actTests : Act → List Bool
-actTests (acts.Open view class asked) = leb 1 class ∷ leb class 5 ∷ leb 1 asked ∷ leb asked 8 ∷ []
-actTests (acts.Through view) = []
-actTests (acts.Return asked granted) = leb asked 8 ∷ leb granted 8 ∷ []
-actTests (acts.Train view asked granted) = leb asked 8 ∷ leb granted 8 ∷ []
-actTests (acts.Receive sender form) = []
+-- ---- the act by name
+
+abbrev pub ActMade : Act → Type 0
+ActMade (acts.Open view class asked) = Carried 1 5 1 class asked 0
+ActMade (acts.Through view) = Unit {0}
+ActMade (acts.Return asked granted) = Few asked granted
+ActMade (acts.Train view asked granted) = Few asked granted
+ActMade (acts.Receive sender form) = Unit {0}
 
 abbrev pub Ranged : Event → Type 0
 Ranged Begin = Unit {0}
-Ranged (At x time act) = Each (actTests act)
+Ranged (At x time act) = ActMade act
 Ranged (Meet x sender form) = Unit {0}
 Ranged Resume = Unit {0}
 
--- a field that may be absent is at most what its range allows
-at-most : (there : Bool) (least most n : ℕ) → inRange there least most n ≡ true → leb n most ≡ true
-at-most true least most n h = both (leb least n) (leb n most) h .1
-at-most false least most n h = let none : n ≡ 0 = eqb-true n 0 h in le-leb n most (omega arith)
+-- ---- a field
+
+-- one that is there lies between the ends of its range, and one that may be absent is at most the larger
+between : (there : Bool) (least most n : ℕ) → there ≡ true → inRange there least most n ≡ true → (least ≤ n) × (n ≤ most)
+between true least most n is h = let p = both (leb least n) (leb n most) h in omega (arith, leb-true)
+between false least most n is h = absurd (false≢true is)
+
+at-most : (there : Bool) (least most n : ℕ) → inRange there least most n ≡ true → n ≤ most
+at-most true least most n h = between true least most n refl h .1
+at-most false least most n h = omega (arith, eqb-true n 0 h)
+
+-- a bit of a row's map
+bit-fits : (row : Row) (map : ℕ) (is : List ℕ) (i : ℕ) → rowFits row map is ≡ true → isIn i is ≡ true → bitFits row map i ≡ true
+bit-fits row map [] i h there = absurd (false≢true there)
+bit-fits row map (j ∷ is) i h there = let p = both (bitFits row map j) (rowFits row map is) h in by (eqb i j) refl (p .0) (bit-fits row map is i (p .1)) there
+  where
+    by : (b : Bool) → eqb i j ≡ b → bitFits row map j ≡ true → (isIn i is ≡ true → bitFits row map i ≡ true) → (b || isIn i is) ≡ true
+        → bitFits row map i ≡ true
+    by true is-j here later there = rw (eqb-true i j is-j) here
+    by false is-j here later there = later there
 
 either : (P : Event → Type 0) (b : Bool) {x y : Event} → (b ≡ true → P x) → (b ≡ false → P y) → P (cond b x y)
 either P true holds fails = holds refl
@@ -49,25 +69,24 @@ isBad (Says event) = ⊥
 bad-says : {why : Refusal} {event : Event} → Bad why ≡ Says event → ⊥
 bad-says e = subst isBad e tt
 
-module _ (e : Entry) (allowed : judge e ≡ Allowed) where
-  ranges : Each (rangeTests e)
-  unfolding judge rangesHold
-  ranges = each-holds (rangeTests e) (not-false (rangesHold e) (none-holds (entryTests e) allowed .1 .1 .0))
+-- ---- a taken entry
 
-  few : Each (leb (e .asked) 8 ∷ leb (e .granted) 8 ∷ [])
-  few = (at-most (stands 5 (e .map)) 1 8 (e .asked) (ranges .1 .1 .1 .1 .0), (at-most (stands 6 (e .map)) 1 8 (e .granted) (ranges .1 .1 .1 .1 .1 .0), tt))
+module _ (e : Entry) (allowed : judge e ≡ Allowed) where
+  few : Few (e .asked) (e .granted)
+  few =
+      let r = taken e allowed .ranges in
+      omega (arith, at-most (stands 5 (e .map)) 1 8 (e .asked) (r .asked), at-most (stands 6 (e .map)) 1 8 (e .granted) (r .granted))
 
   -- OPEN has a class and asks: bits 4 and 5 of its map stand
-  opens : e .kind ≡ 2 → Each (leb 1 (e .class) ∷ leb (e .class) 5 ∷ leb 1 (e .asked) ∷ leb (e .asked) 8 ∷ [])
-  unfolding judge mapFits
+  opens : e .kind ≡ 2 → Carried 1 5 1 (e .class) (e .asked) 0
+  unfolding mapFits
   opens is =
-      let row = rowOf 2 in
-      let map = e .map in
-      let fits : mapFits 2 map ≡ true = rw is at (not-false (mapFits (e .kind) map) (none-holds (entryTests e) allowed .1 .0)) in
-      let bits = each-holds (bitFits row map 0 ∷ bitFits row map 1 ∷ bitFits row map 2 ∷ bitFits row map 3 ∷ bitFits row map 4 ∷ bitFits row map 5 ∷ bitFits row map 6 ∷ bitFits row map 7 ∷ []) fits in
-      let class : (leb 1 (e .class) && leb (e .class) 5) ≡ true = rw (bits .1 .1 .1 .1 .0, is) at (ranges .1 .1 .1 .0) in
-      let asked : (leb 1 (e .asked) && leb (e .asked) 8) ≡ true = rw (bits .1 .1 .1 .1 .1 .0) at (ranges .1 .1 .1 .1 .0) in
-      (both (leb 1 (e .class)) (leb (e .class) 5) class .0, (both (leb 1 (e .class)) (leb (e .class) 5) class .1, (both (leb 1 (e .asked)) (leb (e .asked) 8) asked .0, (both (leb 1 (e .asked)) (leb (e .asked) 8) asked .1, tt))))
+      let r = taken e allowed .ranges in
+      let fits : mapFits 2 (e .map) ≡ true = rw is at (taken e allowed .fits) in
+      let bit = bit-fits (rowOf 2) (e .map) (0 ∷ 1 ∷ 2 ∷ 3 ∷ 4 ∷ 5 ∷ 6 ∷ 7 ∷ []) in
+      let class = between (stands 4 (e .map)) 1 5 (e .class) (bit 4 fits refl) (rw is at (r .class)) in
+      let asked = between (stands 5 (e .map)) 1 8 (e .asked) (bit 5 fits refl) (r .asked) in
+      omega arith
 
   pub ranged : Ranged (eventOf e)
   ranged =

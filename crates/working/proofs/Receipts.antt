@@ -1,57 +1,78 @@
 -- What a receipt does to the desk, by what the vehicle left on: the figures stay in range, and the invariant is kept.
 -- Assumes nothing.
 use Prim.Native.Nat.{_-_, ℕ}
-use Rattle.working.proofs.Invariant.{Halves, far-holds, kept-far, kept-guest, kept-own}
-use Rattle.working.proofs.Plans.{Bounds, or-else-le}
-use Rattle.working.proofs.Tests.{Each, false-true}
-use Rattle.working.specs.Effects.{otherDesk, ownDesk}
-use Rattle.working.specs.WellMade.{isOpener, movementTests}
+use Rattle.working.proofs.Clauses.{Bounds, MovementMade}
+use Rattle.working.proofs.Invariant.{Halves, kept-far, kept-guest, kept-own}
+use Rattle.working.proofs.Tests.{both, either-most}
+use Rattle.working.specs.Effects.{Standing, arriveDesk, otherDesk, ownDesk, received}
+use Rattle.working.specs.Reasons.{mayEnter}
+use Rattle.working.specs.Sections.{numberAt}
+use Rattle.working.specs.WellMade.{isFrom, isOpener, notLater}
 use Rattle.working.specs.declared.Desk.{Desk}
 use Rattle.working.specs.declared.Movement.the-variants.{Open, Return, Through, Train}
 use Rattle.working.specs.declared.Movement.{Movement}
-use borrow.Author.Tests.{leb-true}
-use mathlib.Core.Bool.{true}
+use Rattle.working.specs.declared.Station.{Station}
+use Rattle.working.specs.declared.Vehicle.{Vehicle}
+use lib.Dec.{eqb, ltb}
+use mathlib.Core.Bool.{Bool, _&&_, _||_, cond, false, false≢true, not, true}
 use mathlib.Core.List.{List, [], _++_, _∷_}
 use mathlib.Core.Path.{_≡_, refl}
 use native.Mathlib.Omega.{arith}
+
+-- ---- the desk's figures
 
 -- the desk d becomes e and sent becomes n
 pub record Arrives (d e : Desk) (n : ℕ) : Type 0 where
   pub last : e .last ≡ d .last
   pub sent : e .sent ≡ n
   pub bounds : Bounds e
+  pub interval : notLater (e .interval) (e .clock) ≡ true
 
-bounds-own : (d : Desk) (t : ℕ) (m : Movement) → isOpener m ≡ true → Bounds d → Arrives d (ownDesk d t m) (d .sent - 1)
-bounds-own d t (Open a) q b = record { last = refl; sent = refl; bounds = record { guest = b .guest; asked = b .asked; holds = b .holds; owes = b .owes; interval = refl } }
-bounds-own d t Through q b = record { last = refl; sent = refl; bounds = record { guest = b .guest; asked = b .asked; holds = b .holds; owes = b .owes; interval = refl } }
-bounds-own d t (Return a g) q b = absurd (false-true q)
-bounds-own d t (Train a g) q b = absurd (false-true q)
+arrived : (d : Desk) (t n : ℕ) (to : Standing) → Bounds (received d t n to) → Arrives d (received d t n to) n
+arrived d t n to b = record { last = refl; sent = refl; bounds = b; interval = refl }
 
-pub arrives-own : (d : Desk) (t : ℕ) (m : Movement) → isOpener m ≡ true → Bounds d
-    → Arrives d (ownDesk d t m) (d .sent - 1) × ((o : Desk) (mine theirs : List Movement) → Halves d o (m ∷ mine) theirs → Halves (ownDesk d t m) o mine theirs)
-arrives-own d t m q b = (bounds-own d t m q b, go m q)
+pub arrives-own : (d : Desk) (t : ℕ) (m : Movement) → isOpener m ≡ true → Bounds d → Arrives d (ownDesk d t m) (d .sent - 1)
+arrives-own d t (Open a) is b = arrived d t (d .sent - 1) _ (omega arith)
+arrives-own d t Through is b = arrived d t (d .sent - 1) _ (omega arith)
+arrives-own d t (Return a g) is b = absurd (false≢true is)
+arrives-own d t (Train a g) is b = absurd (false≢true is)
+
+pub arrives-far : (d : Desk) (t class : ℕ) (m : Movement) → MovementMade m class → Bounds d → Arrives d (otherDesk d t class m) 0
+arrives-far d t class (Open a) made b = arrived d t 0 _ (omega arith)
+arrives-far d t class Through made b = arrived d t 0 _ (omega arith)
+arrives-far d t class (Return a g) made b = arrived d t 0 _ (omega (arith, either-most (ltb 0 a) (made .asked) (b .asked)))
+arrives-far d t class (Train a g) made b = arrived d t 0 _ (omega (arith, either-most (ltb 0 a) (made .asked) (b .asked)))
+
+-- ---- the invariant
+
+pub keeps-own : (d o : Desk) (t : ℕ) (m : Movement) (mine theirs : List Movement) → isOpener m ≡ true → Halves d o (m ∷ mine) theirs
+    → Halves (ownDesk d t m) o mine theirs
+keeps-own d o t (Open a) mine theirs is h = kept-own d o t (d .sent - 1) (Open a) mine theirs h is
+keeps-own d o t Through mine theirs is h = kept-own d o t (d .sent - 1) Through mine theirs h is
+keeps-own d o t (Return a g) mine theirs is h = absurd (false≢true is)
+keeps-own d o t (Train a g) mine theirs is h = absurd (false≢true is)
+
+pub keeps-far : (d o : Desk) (t class : ℕ) (m : Movement) (l : List Movement) → MovementMade m class → Halves d o [] (l ++ m ∷ [])
+    → Halves (otherDesk d t class m) o [] l
+keeps-far d o t class (Open a) l made h = kept-guest d o t class a l h (made .least)
+keeps-far d o t class Through l made h = kept-far d o t class Through l h refl
+keeps-far d o t class (Return a g) l made h = kept-far d o t class (Return a g) l h refl
+keeps-far d o t class (Train a g) l made h = kept-far d o t class (Train a g) l h refl
+
+-- ---- whose it is
+
+-- a vehicle v that enters at x is x's own OPEN or THROUGH, or the other's
+pub data Receipt (x : Station) (d : Desk) (t : ℕ) (v : Vehicle) : Desk → Type 0 where
+  of-own : isFrom (numberAt x) v ≡ true → isOpener (v .movement) ≡ true → Receipt x d t v (ownDesk d t (v .movement))
+  of-other : isFrom (numberAt x) v ≡ false → Receipt x d t v (otherDesk d t (v .class) (v .movement))
+
+pub receipt : (x : Station) (d : Desk) (t : ℕ) (v : Vehicle) → mayEnter x v ≡ true → Receipt x d t v (arriveDesk x d t v)
+receipt x d t v = by (isFrom (numberAt x) v) refl
   where
-    go : (m : Movement) → isOpener m ≡ true → (o : Desk) (mine theirs : List Movement) → Halves d o (m ∷ mine) theirs → Halves (ownDesk d t m) o mine theirs
-    go (Open a) q o mine theirs h = kept-own d o _ (Open a) mine theirs h q refl refl refl refl
-    go Through q o mine theirs h = kept-own d o _ Through mine theirs h q refl refl refl refl
-    go (Return a g) q o mine theirs h = absurd (false-true q)
-    go (Train a g) q o mine theirs h = absurd (false-true q)
+    back : Bool
+    back = not (v .met) || eqb (v .heading) (numberAt x)
 
-pub arrives-far : (d : Desk) (t class : ℕ) (m : Movement) → Each (movementTests m class) → Bounds d
-    → Arrives d (otherDesk d t class m) 0 × ((o : Desk) (l : List Movement) → Halves d o [] (l ++ m ∷ []) → Halves (otherDesk d t class m) o [] l)
-arrives-far d t class (Open a) r b = (
-  record { last = refl; sent = refl; bounds = record { guest = leb-true class 5 (r .1 .0); asked = leb-true a 8 (r .1 .1 .1 .0); holds = b .holds; owes = b .owes; interval = refl } },
-  λ o l h. kept-guest d o _ (Open a) l h refl refl refl refl refl refl refl refl (leb-true 1 class (r .0)),
-)
-arrives-far d t class Through r b = (
-  record { last = refl; sent = refl; bounds = record { guest = b .guest; asked = b .asked; holds = b .holds; owes = b .owes; interval = refl } },
-  λ o l h. kept-far d o _ Through l h refl refl (far-holds d o d Through l h) (omega arith) refl,
-)
-arrives-far d t class (Return a g) r b = (
-  record { last = refl; sent = refl; bounds = record { guest = b .guest; asked = or-else-le a (d .clears .asked) (leb-true a 8 (r .1 .1 .0)) (b .asked); holds = leb-true g 8 (r .1 .1 .1 .0); owes = b .owes; interval = refl } },
-  λ o l h. kept-far d o _ (Return a g) l h refl refl refl (omega arith) refl,
-)
-arrives-far d t class (Train a g) r b = (
-  record { last = refl; sent = refl; bounds = record { guest = b .guest; asked = or-else-le a (d .clears .asked) (leb-true a 8 (r .1 .0)) (b .asked); holds = leb-true g 8 (r .1 .1 .0); owes = omega (arith, b .owes); interval = refl } },
-  λ o l h. kept-far d o _ (Train a g) l h refl refl refl refl refl,
-)
+    by : (b : Bool) → isFrom (numberAt x) v ≡ b → cond b (isOpener (v .movement) && back) (eqb (v .heading) (numberAt x)) ≡ true
+        → Receipt x d t v (cond b (ownDesk d t (v .movement)) (otherDesk d t (v .class) (v .movement)))
+    by true is may = of-own is (both (isOpener (v .movement)) back may .0)
+    by false is may = of-other is

@@ -1,15 +1,14 @@
 -- Sentences of document 01, each as one computed equation.
 -- Assumes nothing.
 use Prim.Native.Nat.{ℕ}
+use Rattle.working.proofs.Computing.{reading-computes, step-computes, turns-compute}
 use Rattle.working.proofs.Edges.{after, begun, guest, holding}
 use Rattle.working.proofs.Literals.{begin, meet, opens, opensAs, plain, receive, resume, returns, returnsAsking, train, vehicle}
 use Rattle.working.specs.Demand3.{vehicleAt}
-use Rattle.working.specs.Entries.{entryIn, judge, lengthOf, mapFits, rangesHold, readAt, writtenAt}
-use Rattle.working.specs.Events.{decode}
+use Rattle.working.specs.Entries.{readAt, writtenAt}
 use Rattle.working.specs.Sections.{countRefusal, emptied, fresh, freshDesk, numberAt, padTo}
-use Rattle.working.specs.Steps.{entered, stepOf}
+use Rattle.working.specs.Steps.{stepOf}
 use Rattle.working.specs.Turns.{answersIn, turnsFrom, turnsOf}
-use Rattle.working.specs.WellMade.{wellMade}
 use Rattle.working.specs.declared.Answer.the-variants.{Refused}
 use Rattle.working.specs.declared.Entry.{Entry}
 use Rattle.working.specs.declared.Movement.the-variants.{Open, Return}
@@ -51,52 +50,59 @@ beginning = record { map = 1; kind = 1; station = 0; time = 0; view = 0; class =
 
 -- "A refusal adds 1 to the count and alters nothing else"
 refusal-counts : stepOf begun begin .section ≡ countRefusal begun
-unfolding stepOf wellMade decode readAt judge mapFits rangesHold entryIn lengthOf entered padTo
+unfolding step-computes
 refusal-counts = refl
 
 -- "a 32-bit count of refused entries that stops at its largest value": from 4,294,967,294 to 4,294,967,295, and it stays there
-count-stops : (after (refusing 4294967294) ([] ∷ []) ≡ refusing 4294967295) × (after (refusing 4294967294) ([] ∷ [] ∷ []) ≡ refusing 4294967295) × (after (refusing 4294967295) ([] ∷ []) ≡ refusing 4294967295)
-unfolding stepOf wellMade decode readAt judge mapFits rangesHold entryIn lengthOf entered padTo
+count-stops : (after (refusing 4294967294) ([] ∷ []) ≡ refusing 4294967295)
+    × (after (refusing 4294967294) ([] ∷ [] ∷ []) ≡ refusing 4294967295)
+    × (after (refusing 4294967295) ([] ∷ []) ≡ refusing 4294967295)
+unfolding step-computes
 count-stops = (refl, refl, refl)
 
 -- "5 is tested first", also before no bytes, and alters nothing
 ill-made-first : (stepOf ill [] .answer ≡ Refused IllMade) × (stepOf ill [] .section ≡ ill)
-unfolding stepOf wellMade padTo
+unfolding step-computes
 ill-made-first = (refl, refl)
 
 -- "BEGIN: in force; all but the count as fresh. RESUME: as fresh but the count."
 begins-and-resumes : (after fresh ([] ∷ begin ∷ []) ≡ emptied true 1) × (after fresh ([] ∷ begin ∷ resume ∷ []) ≡ emptied false 1)
-unfolding stepOf wellMade decode readAt judge mapFits rangesHold entryIn lengthOf entered padTo
+unfolding step-computes
 begins-and-resumes = (refl, refl)
 
 -- "OPEN: out is set. The vehicle carries asked."
 opener-away : (opened .a .out ≡ true) × (vehicleAt opened 0 .movement ≡ Open 2)
-unfolding stepOf wellMade decode readAt judge mapFits rangesHold entryIn lengthOf entered padTo
+unfolding step-computes
 opener-away = (refl, refl)
 
 -- "OPEN makes guest and asked", and clears nothing: an enquiry is no line clear
 enquiry-is-no-line-clear : (guest .b .guest ≡ 1) × (guest .b .clears .asked ≡ 2) × (guest .b .clears .holds ≡ 0)
-unfolding guest stepOf wellMade decode readAt judge mapFits rangesHold entryIn lengthOf entered padTo
+unfolding guest step-computes
 enquiry-is-no-line-clear = (refl, refl, refl)
 
 -- "RETURN: guest and asked at S cleared; the vehicle has the guest's class and carries asked and granted; granted above 0 becomes S's owes."
-return-leaves : (returning .b .guest ≡ 0) × (returning .b .clears .asked ≡ 0) × (returning .b .clears .owes ≡ 2) × (vehicleAt returning 0 .class ≡ 1) × (vehicleAt returning 0 .movement ≡ Return 0 2)
-unfolding guest stepOf wellMade decode readAt judge mapFits rangesHold entryIn lengthOf entered padTo
+return-leaves : (returning .b .guest ≡ 0)
+    × (returning .b .clears .asked ≡ 0)
+    × (returning .b .clears .owes ≡ 2)
+    × (vehicleAt returning 0 .class ≡ 1)
+    × (vehicleAt returning 0 .movement ≡ Return 0 2)
+unfolding guest step-computes
 return-leaves = (refl, refl, refl, refl, refl)
 
 -- "TRAIN lowers owes by 1", at the station that receives it; "holds falls by 1" at the one that sent it
 train-arrives : (after holding (train 1 96 ∷ []) .a .clears .holds ≡ 1) × (after holding (train 1 96 ∷ receive 2 130 1 2 ∷ []) .b .clears .owes ≡ 1)
-unfolding guest holding stepOf wellMade decode readAt judge mapFits rangesHold entryIn lengthOf entered padTo
+unfolding guest holding step-computes
 train-arrives = (refl, refl)
 
 -- "the vehicle has the guest's class": a guest of class 2, whose RETURN carries class 2
 guest-class-kept : (visiting .b .guest ≡ 2) × (vehicleAt (after visiting (returnsAsking 2 75 1 3 ∷ [])) 0 ≡ vehicle (Return 1 3) 2 1 1 false 2)
-unfolding stepOf wellMade decode readAt judge mapFits rangesHold entryIn lengthOf entered padTo
+unfolding step-computes
 guest-class-kept = (refl, refl)
 
 -- "MEET: .. both then head to the station given and are met": either station, and all else of the two as it was
-both-turn : (x : Station) → (vehicleAt (meeting x) 0 ≡ vehicle (Open 2) 1 1 (numberAt x) true 1) × (vehicleAt (meeting x) 1 ≡ vehicle (Open 1) 2 1 (numberAt x) true 1)
-unfolding stepOf wellMade decode readAt judge mapFits rangesHold entryIn lengthOf entered padTo
+both-turn : (x : Station)
+    → (vehicleAt (meeting x) 0 ≡ vehicle (Open 2) 1 1 (numberAt x) true 1) × (vehicleAt (meeting x) 1 ≡ vehicle (Open 1) 2 1 (numberAt x) true 1)
+unfolding step-computes
 both-turn A = (refl, refl)
 both-turn B = (refl, refl)
 
@@ -107,10 +113,10 @@ no-entries = refl
 
 -- "after 2, 3 or 4 reading goes on behind the entry"; "1 .. reading stops"
 reading-goes-on : answersIn (turnsOf fresh (0 ∷ 3 ∷ 1 ∷ 1 ∷ 1 ∷ 1 ∷ 7 ∷ 7 ∷ [])) ≡ Refused UnknownKind ∷ Refused WrongMap ∷ plain ∷ Refused EndsInside ∷ []
-unfolding turnsFrom stepOf wellMade decode readAt judge mapFits rangesHold entryIn lengthOf entered padTo
+unfolding turns-compute
 reading-goes-on = refl
 
 -- "A position past the end gives a reader 1 and a writer 23."
 past-the-end : (readAt (1 ∷ 1 ∷ []) 3 ≡ read.Refused EndsInside 3) × (writtenAt (1 ∷ 1 ∷ []) 3 beginning ≡ written.Refused BufferTooShort)
-unfolding readAt writtenAt judge mapFits rangesHold lengthOf
+unfolding reading-computes writtenAt
 past-the-end = (refl, refl)

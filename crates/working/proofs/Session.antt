@@ -1,12 +1,9 @@
 -- Document 01's session, by computation: each entry's answer, and the section at the end.
 -- Assumes nothing.
 use Prim.Native.Nat.{ℕ}
-use Rattle.working.specs.Entries.{entryIn, judge, lengthOf, mapFits, rangesHold, readAt}
-use Rattle.working.specs.Events.{decode}
-use Rattle.working.specs.Sections.{fresh, padTo}
-use Rattle.working.specs.Steps.{entered, stepOf}
-use Rattle.working.specs.Turns.{answersIn, sectionAfter, turnsFrom, turnsOf}
-use Rattle.working.specs.WellMade.{wellMade}
+use Rattle.working.proofs.Computing.{turns-compute}
+use Rattle.working.specs.Sections.{fresh}
+use Rattle.working.specs.Turns.{answersIn, sectionAfter, turnsOf}
 use Rattle.working.specs.declared.Answer.the-variants.{Accepted, Refused}
 use Rattle.working.specs.declared.Refusal.the-variants.{IntervalRunning}
 use Rattle.working.specs.declared.Section.{Section}
@@ -36,12 +33,12 @@ the-session : answersIn (turnsOf fresh session) ≡
     ∷ Refused IntervalRunning
     ∷ Accepted 3 104 (Kmh 25)
     ∷ []
-unfolding turnsFrom stepOf wellMade decode readAt judge mapFits rangesHold entryIn lengthOf entered padTo
+unfolding turns-compute
 the-session = refl
 
 last : Section
 last = sectionAfter fresh (turnsOf fresh session)
 
 the-end : (last .len ≡ 2) × (last .a .clears .holds ≡ 0) × (last .a .clears .owes ≡ 0) × (last .b .clears .holds ≡ 0) × (last .b .clears .owes ≡ 2)
-unfolding last turnsFrom stepOf wellMade decode readAt judge mapFits rangesHold entryIn lengthOf entered padTo
+unfolding last turns-compute
 the-end = (refl, refl, refl, refl, refl)

@@ -1,12 +1,9 @@
 -- Short logs of the second program's generator, and the answers that its lister gave, by computation on the definitions.
 -- Written by scripts/stored-logs; never by hand. Assumes nothing.
 use Prim.Native.Nat.{ℕ}
-use Rattle.working.specs.Entries.{entryIn, judge, lengthOf, mapFits, rangesHold, readAt}
-use Rattle.working.specs.Events.{decode}
-use Rattle.working.specs.Sections.{fresh, padTo}
-use Rattle.working.specs.Steps.{entered, stepOf}
-use Rattle.working.specs.Turns.{answersIn, turnsFrom, turnsOf}
-use Rattle.working.specs.WellMade.{wellMade}
+use Rattle.working.proofs.Computing.{turns-compute}
+use Rattle.working.specs.Sections.{fresh}
+use Rattle.working.specs.Turns.{answersIn, turnsOf}
 use Rattle.working.specs.declared.Answer.the-variants.{Accepted, Refused}
 use Rattle.working.specs.declared.Refusal.the-variants.{AlreadyInForce, BeforeClock, EndsInside, MayNotEnter, NoLineClear, NotInForce, NotNearest, OutOfRange, UnknownKind, VehiclePresent, WrongMap}
 use Rattle.working.specs.declared.Speed.the-variants.{Booked, Kmh, NoSpeed, Walking}
@@ -26,34 +23,14 @@ log-3 =
     ∷ []
 
 answers-3 : answersIn (turnsOf fresh log-3) ≡
-    Refused NotInForce
-    ∷ Accepted 0 0 NoSpeed
-    ∷ Accepted 1 7 (Kmh 15)
-    ∷ Accepted 0 0 NoSpeed
-    ∷ Accepted 1 180 Booked
-    ∷ Refused MayNotEnter
-    ∷ Refused OutOfRange
-    ∷ Accepted 0 0 NoSpeed
-    ∷ Accepted 2 168 Booked
-    ∷ Refused MayNotEnter
-    ∷ Accepted 0 0 NoSpeed
-    ∷ Accepted 3 106 (Kmh 25)
-    ∷ Accepted 4 106 (Kmh 10)
-    ∷ Accepted 0 0 NoSpeed
-    ∷ Refused NotNearest
-    ∷ Refused VehiclePresent
-    ∷ Accepted 0 0 NoSpeed
-    ∷ Accepted 5 104 (Kmh 10)
-    ∷ Refused NotNearest
-    ∷ Refused NoLineClear
-    ∷ Accepted 0 0 NoSpeed
-    ∷ Accepted 6 104 (Kmh 10)
-    ∷ Accepted 0 0 NoSpeed
-    ∷ Refused UnknownKind
-    ∷ Accepted 7 106 (Kmh 10)
+    Refused NotInForce ∷ Accepted 0 0 NoSpeed ∷ Accepted 1 7 (Kmh 15) ∷ Accepted 0 0 NoSpeed ∷ Accepted 1 180 Booked
+    ∷ Refused MayNotEnter ∷ Refused OutOfRange ∷ Accepted 0 0 NoSpeed ∷ Accepted 2 168 Booked ∷ Refused MayNotEnter
+    ∷ Accepted 0 0 NoSpeed ∷ Accepted 3 106 (Kmh 25) ∷ Accepted 4 106 (Kmh 10) ∷ Accepted 0 0 NoSpeed ∷ Refused NotNearest
+    ∷ Refused VehiclePresent ∷ Accepted 0 0 NoSpeed ∷ Accepted 5 104 (Kmh 10) ∷ Refused NotNearest ∷ Refused NoLineClear
+    ∷ Accepted 0 0 NoSpeed ∷ Accepted 6 104 (Kmh 10) ∷ Accepted 0 0 NoSpeed ∷ Refused UnknownKind ∷ Accepted 7 106 (Kmh 10)
     ∷ Accepted 0 0 NoSpeed
     ∷ []
-unfolding turnsFrom stepOf wellMade decode readAt judge mapFits rangesHold entryIn lengthOf entered padTo
+unfolding turns-compute
 answers-3 = refl
 
 abbrev log-8 : List ℕ
@@ -69,34 +46,14 @@ log-8 =
     ∷ []
 
 answers-8 : answersIn (turnsOf fresh log-8) ≡
-    Accepted 0 0 NoSpeed
-    ∷ Refused UnknownKind
-    ∷ Accepted 1 1 Walking
-    ∷ Accepted 1 1 Walking
-    ∷ Accepted 0 0 NoSpeed
-    ∷ Accepted 2 1 (Kmh 10)
-    ∷ Accepted 3 1 Walking
-    ∷ Accepted 4 1 (Kmh 10)
-    ∷ Accepted 2 1 Walking
-    ∷ Accepted 3 1 (Kmh 15)
-    ∷ Accepted 4 1 Walking
-    ∷ Accepted 5 1 Walking
-    ∷ Accepted 5 1 (Kmh 15)
-    ∷ Refused BeforeClock
-    ∷ Accepted 6 1 Walking
-    ∷ Accepted 6 1 Walking
-    ∷ Accepted 7 1 Walking
-    ∷ Accepted 0 0 NoSpeed
-    ∷ Accepted 7 1 Walking
-    ∷ Refused UnknownKind
-    ∷ Accepted 8 1 (Kmh 15)
-    ∷ Accepted 9 1 Walking
-    ∷ Accepted 8 1 (Kmh 15)
-    ∷ Accepted 10 1 (Kmh 15)
-    ∷ Accepted 9 1 Walking
+    Accepted 0 0 NoSpeed ∷ Refused UnknownKind ∷ Accepted 1 1 Walking ∷ Accepted 1 1 Walking ∷ Accepted 0 0 NoSpeed
+    ∷ Accepted 2 1 (Kmh 10) ∷ Accepted 3 1 Walking ∷ Accepted 4 1 (Kmh 10) ∷ Accepted 2 1 Walking ∷ Accepted 3 1 (Kmh 15)
+    ∷ Accepted 4 1 Walking ∷ Accepted 5 1 Walking ∷ Accepted 5 1 (Kmh 15) ∷ Refused BeforeClock ∷ Accepted 6 1 Walking
+    ∷ Accepted 6 1 Walking ∷ Accepted 7 1 Walking ∷ Accepted 0 0 NoSpeed ∷ Accepted 7 1 Walking ∷ Refused UnknownKind
+    ∷ Accepted 8 1 (Kmh 15) ∷ Accepted 9 1 Walking ∷ Accepted 8 1 (Kmh 15) ∷ Accepted 10 1 (Kmh 15) ∷ Accepted 9 1 Walking
     ∷ Refused EndsInside
     ∷ []
-unfolding turnsFrom stepOf wellMade decode readAt judge mapFits rangesHold entryIn lengthOf entered padTo
+unfolding turns-compute
 answers-8 = refl
 
 abbrev log-21 : List ℕ
@@ -112,34 +69,14 @@ log-21 =
     ∷ []
 
 answers-21 : answersIn (turnsOf fresh log-21) ≡
-    Refused OutOfRange
-    ∷ Accepted 0 0 NoSpeed
-    ∷ Accepted 1 7 (Kmh 10)
-    ∷ Accepted 1 7 Walking
-    ∷ Accepted 0 0 NoSpeed
-    ∷ Accepted 2 7 (Kmh 15)
-    ∷ Accepted 0 0 NoSpeed
-    ∷ Accepted 3 7 (Kmh 10)
-    ∷ Accepted 0 0 NoSpeed
-    ∷ Accepted 0 0 NoSpeed
-    ∷ Accepted 2 7 (Kmh 10)
-    ∷ Refused WrongMap
-    ∷ Accepted 0 0 NoSpeed
-    ∷ Accepted 3 7 (Kmh 15)
-    ∷ Accepted 0 0 NoSpeed
-    ∷ Accepted 4 7 Walking
-    ∷ Accepted 0 0 NoSpeed
-    ∷ Refused BeforeClock
-    ∷ Accepted 5 7 Walking
-    ∷ Accepted 0 0 NoSpeed
-    ∷ Accepted 6 1 (Kmh 15)
-    ∷ Accepted 0 0 NoSpeed
-    ∷ Accepted 7 7 Walking
-    ∷ Accepted 0 0 NoSpeed
-    ∷ Refused UnknownKind
+    Refused OutOfRange ∷ Accepted 0 0 NoSpeed ∷ Accepted 1 7 (Kmh 10) ∷ Accepted 1 7 Walking ∷ Accepted 0 0 NoSpeed
+    ∷ Accepted 2 7 (Kmh 15) ∷ Accepted 0 0 NoSpeed ∷ Accepted 3 7 (Kmh 10) ∷ Accepted 0 0 NoSpeed ∷ Accepted 0 0 NoSpeed
+    ∷ Accepted 2 7 (Kmh 10) ∷ Refused WrongMap ∷ Accepted 0 0 NoSpeed ∷ Accepted 3 7 (Kmh 15) ∷ Accepted 0 0 NoSpeed
+    ∷ Accepted 4 7 Walking ∷ Accepted 0 0 NoSpeed ∷ Refused BeforeClock ∷ Accepted 5 7 Walking ∷ Accepted 0 0 NoSpeed
+    ∷ Accepted 6 1 (Kmh 15) ∷ Accepted 0 0 NoSpeed ∷ Accepted 7 7 Walking ∷ Accepted 0 0 NoSpeed ∷ Refused UnknownKind
     ∷ Refused EndsInside
     ∷ []
-unfolding turnsFrom stepOf wellMade decode readAt judge mapFits rangesHold entryIn lengthOf entered padTo
+unfolding turns-compute
 answers-21 = refl
 
 abbrev log-34 : List ℕ
@@ -155,32 +92,12 @@ log-34 =
     ∷ []
 
 answers-34 : answersIn (turnsOf fresh log-34) ≡
-    Accepted 0 0 NoSpeed
-    ∷ Accepted 1 7 (Kmh 10)
-    ∷ Accepted 1 7 Walking
-    ∷ Refused UnknownKind
-    ∷ Accepted 0 0 NoSpeed
-    ∷ Refused UnknownKind
-    ∷ Accepted 2 1 Walking
-    ∷ Accepted 3 7 (Kmh 15)
-    ∷ Accepted 0 0 NoSpeed
-    ∷ Accepted 4 7 (Kmh 10)
-    ∷ Refused UnknownKind
-    ∷ Accepted 0 0 NoSpeed
-    ∷ Accepted 0 0 NoSpeed
-    ∷ Accepted 2 7 (Kmh 15)
-    ∷ Refused UnknownKind
-    ∷ Accepted 5 7 (Kmh 10)
-    ∷ Accepted 0 0 NoSpeed
-    ∷ Accepted 3 7 (Kmh 15)
-    ∷ Accepted 0 0 NoSpeed
-    ∷ Accepted 0 0 NoSpeed
-    ∷ Accepted 6 1 (Kmh 10)
-    ∷ Accepted 0 0 NoSpeed
-    ∷ Accepted 7 7 (Kmh 10)
-    ∷ Accepted 0 0 NoSpeed
-    ∷ Accepted 8 7 (Kmh 10)
+    Accepted 0 0 NoSpeed ∷ Accepted 1 7 (Kmh 10) ∷ Accepted 1 7 Walking ∷ Refused UnknownKind ∷ Accepted 0 0 NoSpeed
+    ∷ Refused UnknownKind ∷ Accepted 2 1 Walking ∷ Accepted 3 7 (Kmh 15) ∷ Accepted 0 0 NoSpeed ∷ Accepted 4 7 (Kmh 10)
+    ∷ Refused UnknownKind ∷ Accepted 0 0 NoSpeed ∷ Accepted 0 0 NoSpeed ∷ Accepted 2 7 (Kmh 15) ∷ Refused UnknownKind
+    ∷ Accepted 5 7 (Kmh 10) ∷ Accepted 0 0 NoSpeed ∷ Accepted 3 7 (Kmh 15) ∷ Accepted 0 0 NoSpeed ∷ Accepted 0 0 NoSpeed
+    ∷ Accepted 6 1 (Kmh 10) ∷ Accepted 0 0 NoSpeed ∷ Accepted 7 7 (Kmh 10) ∷ Accepted 0 0 NoSpeed ∷ Accepted 8 7 (Kmh 10)
     ∷ Refused AlreadyInForce
     ∷ []
-unfolding turnsFrom stepOf wellMade decode readAt judge mapFits rangesHold entryIn lengthOf entered padTo
+unfolding turns-compute
 answers-34 = refl

@@ -2,23 +2,22 @@
 -- The line is seen from a station: as it stands from A, the other way round from B. Only the laws of `seenFrom` split on the station.
 -- Assumes nothing.
 use Prim.Native.Nat.{_+_, _-_, _<_, suc, zero, ℕ}
+use Rattle.working.proofs.Every.{Every, every-add}
 use Rattle.working.proofs.Invariant.{weigh, weigh-snoc}
-use Rattle.working.proofs.Line.{Every, all-insert, other-number}
-use Rattle.working.proofs.Tests.{both}
+use Rattle.working.proofs.Line.{From, NotFrom, not-own}
 use Rattle.working.specs.Demand3.{ofStation}
 use Rattle.working.specs.Sections.{insertAt, numberAt, otherAt, unused}
 use Rattle.working.specs.Steps.{turnAt}
-use Rattle.working.specs.WellMade.{all, isFrom, sumOver}
+use Rattle.working.specs.WellMade.{isFrom, sumOver}
 use Rattle.working.specs.declared.Movement.{Movement}
 use Rattle.working.specs.declared.Station.the-variants.{A, B}
 use Rattle.working.specs.declared.Station.{Station}
 use Rattle.working.specs.declared.Vehicle.{Vehicle}
-use borrow.Author.Tests.{eqb-true}
 use lib.ListN.{List·getD-append, getD, length, length-reverse}
 use lib.Seq.{getD-at}
-use mathlib.Core.Bool.{Bool, _&&_, cond, false, true}
-use mathlib.Core.List.{List, [], _++_, _∷_, append-nil, reverse, reverse-append, reverse-cons}
-use mathlib.Core.Path.{_∙_, _≡_, ap, refl, sym}
+use mathlib.Core.Bool.{Bool, cond, false, true}
+use mathlib.Core.List.{List, [], _++_, _∷_, append-nil, reverse, reverse-append, reverse-cons, reverse-reverse}
+use mathlib.Core.Path.{_∙_, _≡_, ap, refl, subst, sym}
 use native.Mathlib.Omega.{arith}
 
 abbrev pub seenFrom : {T : Type 0} → Station → List T → List T
@@ -44,13 +43,15 @@ seen-far : (x : Station) (v : Vehicle) (l : List Vehicle) → seenFrom (otherAt 
 seen-far A v l = reverse-cons v l
 seen-far B v l = refl
 
-all-reverse : (p : Vehicle → Bool) (l : List Vehicle) → all p (reverse l) ≡ all p l
-all-reverse p [] = refl
-all-reverse p (v ∷ l) = ap (all p) (reverse-cons v l) ∙ all-insert p B v (reverse l) ∙ ap (λ (b : Bool). p v && b) (all-reverse p l)
+every-reverse : (P : Vehicle → Type 0) (l : List Vehicle) → Every P l → Every P (reverse l)
+every-reverse P [] h = tt
+every-reverse P (v ∷ l) h = subst (Every P) (sym (reverse-cons v l)) (every-add P (reverse l) v (every-reverse P l (h .1)) (h .0))
 
-pub all-seen : (x : Station) (p : Vehicle → Bool) (l : List Vehicle) → all p (seenFrom x l) ≡ all p l
-all-seen A p l = refl
-all-seen B p l = all-reverse p l
+pub every-seen : (P : Vehicle → Type 0) (x y : Station) (l : List Vehicle) → Every P (seenFrom x l) → Every P (seenFrom y l)
+every-seen P A A l h = h
+every-seen P A B l h = every-reverse P l h
+every-seen P B A l h = subst (Every P) (reverse-reverse l) (every-reverse P (reverse l) h)
+every-seen P B B l h = h
 
 pub length-seen : (x : Station) (l : List Vehicle) → length (seenFrom x l) ≡ length l
 length-seen A l = refl
@@ -81,13 +82,14 @@ own-snoc n (u ∷ l) v = rw (own-snoc n l v) (go (isFrom n u))
     more : List Movement
     more = cond (isFrom n v) (v .movement ∷ []) []
 
-    go : (b : Bool) → cond b (u .movement ∷ (ownMoves n l ++ more)) (ownMoves n l ++ more) ≡ cond b (u .movement ∷ ownMoves n l) (ownMoves n l) ++ more
+    go : (b : Bool)
+        → cond b (u .movement ∷ (ownMoves n l ++ more)) (ownMoves n l ++ more) ≡ cond b (u .movement ∷ ownMoves n l) (ownMoves n l) ++ more
     go true = refl
     go false = refl
 
-own-none : (n m : ℕ) (l : List Vehicle) → ((v : Vehicle) → isFrom m v ≡ true → isFrom n v ≡ false) → all (isFrom m) l ≡ true → ownMoves n l ≡ []
-own-none n m [] f h = refl
-own-none n m (v ∷ l) f h = let p = both (isFrom m v) (all (isFrom m) l) h in rw (f v (p .0)) (own-none n m l f (p .1))
+own-none : (x : Station) (l : List Vehicle) → Every (From (otherAt x)) l → ownMoves (numberAt x) l ≡ []
+own-none x [] h = refl
+own-none x (v ∷ l) h = rw (not-own x v (h .0)) (own-none x l (h .1))
 
 own-turned : (n : ℕ) (z : Station) (i : ℕ) (l : List Vehicle) → ownMoves n (turnAt z i l) ≡ ownMoves n l
 own-turned n z i [] = refl
@@ -109,31 +111,30 @@ own-seen n B l = own-reverse n l
 -- ---- laws for a vehicle at x's end
 
 module _ (x : Station) (v : Vehicle) (l : List Vehicle) where
-  pub moves-own : isFrom (numberAt x) v ≡ true → movesOf x (insertAt x v l) ≡ v .movement ∷ movesOf x l
+  pub moves-own : From x v → movesOf x (insertAt x v l) ≡ v .movement ∷ movesOf x l
   moves-own e = ap (ownMoves (numberAt x)) (seen-own x v l) ∙ rw e
 
-  pub moves-skip : isFrom (numberAt x) v ≡ false → movesOf x (insertAt x v l) ≡ movesOf x l
+  pub moves-skip : NotFrom x v → movesOf x (insertAt x v l) ≡ movesOf x l
   moves-skip e = ap (ownMoves (numberAt x)) (seen-own x v l) ∙ rw e
 
-  pub moves-far : isFrom (numberAt (otherAt x)) v ≡ true → movesOf (otherAt x) (insertAt x v l) ≡ movesOf (otherAt x) l ++ v .movement ∷ []
+  pub moves-far : From (otherAt x) v → movesOf (otherAt x) (insertAt x v l) ≡ movesOf (otherAt x) l ++ v .movement ∷ []
   moves-far e = ap (ownMoves (numberAt (otherAt x))) (seen-far x v l) ∙ own-snoc (numberAt (otherAt x)) (seenFrom (otherAt x) l) v ∙ rw e
 
-  pub moves-past : isFrom (numberAt (otherAt x)) v ≡ false → movesOf (otherAt x) (insertAt x v l) ≡ movesOf (otherAt x) l
+  pub moves-past : NotFrom (otherAt x) v → movesOf (otherAt x) (insertAt x v l) ≡ movesOf (otherAt x) l
   moves-past e =
       ap (ownMoves (numberAt (otherAt x))) (seen-far x v l) ∙ own-snoc (numberAt (otherAt x)) (seenFrom (otherAt x) l) v
       ∙ rw e (append-nil (movesOf (otherAt x) l))
 
-pub moves-none : (x : Station) (l : List Vehicle) → all (isFrom (numberAt (otherAt x))) l ≡ true → movesOf x l ≡ []
-moves-none x l h =
-    own-none (numberAt x) (numberAt (otherAt x)) (seenFrom x l) (λ v e. rw (eqb-true (v .sender) (numberAt (otherAt x)) e) (other-number x))
-    (all-seen x (isFrom (numberAt (otherAt x))) l ∙ h)
+pub moves-none : (x : Station) (l : List Vehicle) → Every (From (otherAt x)) l → movesOf x l ≡ []
+moves-none x l h = own-none x (seenFrom x l) (every-seen (From (otherAt x)) A x l h)
 
 pub moves-turned : (x z : Station) (i : ℕ) (l : List Vehicle) → movesOf x (turnAt z i l) ≡ movesOf x l
 moves-turned x z i l = own-seen (numberAt x) x (turnAt z i l) ∙ ap (seenFrom x) (own-turned (numberAt x) z i l) ∙ sym (own-seen (numberAt x) x l)
 
 -- ---- figures of what a station's vehicles left on
 
-own-weight : (y : Station) (f : Vehicle → ℕ) (g : Movement → ℕ) (l : List Vehicle) → Every (λ v. f v ≡ g (v .movement)) l → sumOver (ofStation y f) l ≡ weigh g (ownMoves (numberAt y) l)
+own-weight : (y : Station) (f : Vehicle → ℕ) (g : Movement → ℕ) (l : List Vehicle) → Every (λ v. f v ≡ g (v .movement)) l
+    → sumOver (ofStation y f) l ≡ weigh g (ownMoves (numberAt y) l)
 own-weight y f g [] a = refl
 own-weight y f g (v ∷ l) a = go (isFrom (numberAt y) v) (own-weight y f g l (a .1))
   where
@@ -151,5 +152,6 @@ weigh-seen A g l = refl
 weigh-seen B g l = weigh-reverse g l
 
 -- a figure that each vehicle has from what it left on, added up over one station's vehicles
-pub moves-weight : (y : Station) (f : Vehicle → ℕ) (g : Movement → ℕ) (l : List Vehicle) → Every (λ v. f v ≡ g (v .movement)) l → sumOver (ofStation y f) l ≡ weigh g (movesOf y l)
+pub moves-weight : (y : Station) (f : Vehicle → ℕ) (g : Movement → ℕ) (l : List Vehicle) → Every (λ v. f v ≡ g (v .movement)) l
+    → sumOver (ofStation y f) l ≡ weigh g (movesOf y l)
 moves-weight y f g l a = own-weight y f g l a ∙ sym (ap (weigh g) (own-seen (numberAt y) y l) ∙ weigh-seen y g (ownMoves (numberAt y) l))

@@ -1,46 +1,66 @@
--- Tests: what a conjunction, a disjunction and a list of tests say of their parts.
+-- Tests: what a conjunction, a disjunction, a comparison with 0 and a list of tests say of their parts.
 -- Assumes nothing.
+use Prim.Native.Nat.{_<_, _≤_, ℕ}
 use Rattle.working.specs.Entries.{every}
 use Rattle.working.specs.Refusals.{Test, firstOf, orElse}
 use Rattle.working.specs.declared.Refusal.{Refusal}
 use Rattle.working.specs.declared.Verdict.the-variants.{Allowed}
 use Rattle.working.specs.declared.Verdict.{Verdict}
-use mathlib.Core.Bool.{Bool, _&&_, _||_, false, true, true≢false}
+use borrow.Author.Tests.{eqb-false, le-ltb, ltb-false}
+use lib.Dec.{eqb, ltb}
+use mathlib.Core.Bool.{Bool, _&&_, _||_, cond, false, false≢true, true, true≢false}
 use mathlib.Core.List.{List, [], _++_, _∷_}
 use mathlib.Core.Path.{_∙_, _≡_, refl, sym}
-
-pub false-true : false ≡ true → ⊥
-false-true e = true≢false (sym e)
-
-pub clash : {b : Bool} → b ≡ true → b ≡ false → ⊥
-clash p q = false-true (sym q ∙ p)
+use native.Mathlib.Omega.{arith}
 
 -- ---- two tests
 
+pub clash : {b : Bool} → b ≡ true → b ≡ false → ⊥
+clash p q = false≢true (sym q ∙ p)
+
 pub both : (a b : Bool) → (a && b) ≡ true → (a ≡ true) × (b ≡ true)
 both true b e = (refl, e)
-both false b e = absurd (false-true e)
+both false b e = absurd (false≢true e)
 
 pub and : (a b : Bool) → a ≡ true → b ≡ true → (a && b) ≡ true
 and true b p q = q
-and false b p q = absurd (false-true p)
+and false b p q = absurd (false≢true p)
 
 pub or-left : (a b : Bool) → (a || b) ≡ false → a ≡ false
 or-left true b e = e
 or-left false b e = refl
 
 pub or-right : (a b : Bool) → (a || b) ≡ false → b ≡ false
-or-right true b e = absurd (false-true (sym e))
+or-right true b e = absurd (true≢false e)
 or-right false b e = e
 
 -- the first fails, so the second holds
 pub or-second : (a b : Bool) → (a || b) ≡ true → a ≡ false → b ≡ true
-or-second true b e p = absurd (false-true (sym p))
+or-second true b e p = absurd (true≢false p)
 or-second false b e p = e
 
 pub or-intro : (a b : Bool) → b ≡ true → (a || b) ≡ true
 or-intro true b e = refl
 or-intro false b e = e
+
+-- ---- a number that is 0 or not
+
+pub no-test : (n : ℕ) → ltb 0 n ≡ false → n ≡ 0
+no-test n e = omega (arith, ltb-false 0 n e)
+
+pub some-test : (n : ℕ) → eqb n 0 ≡ false → 0 < n
+some-test n e = omega (arith, eqb-false n 0 e)
+
+pub zero-test : (n : ℕ) → n ≡ 0 → ltb 0 n ≡ false
+zero-test n e = le-ltb 0 n (omega arith)
+
+pub zero-unless : (n : ℕ) → (0 < n → ⊥) → n ≡ 0
+zero-unless n f = omega arith
+
+-- either of two numbers that are at most k
+pub either-most : (b : Bool) {m n k : ℕ} → m ≤ k → n ≤ k → cond b m n ≤ k
+either-most true p q = p
+either-most false p q = q
 
 -- ---- a list of tests that all hold
 

@@ -1,37 +1,32 @@
 -- Each vehicle present has its departure in the list of steps, of the kind that its record says; an OPEN or THROUGH left on T/B 602 at 15 km/h or less.
 -- A step that is no accepted departure adds none; one that is takes a form number that no vehicle present has.
 -- Assumes nothing.
-use Prim.Native.Nat.{ℕ, _+_, _≤_, suc}
-use Rattle.working.proofs.Changes.{Change, Sound, arrival, departure, emptying, meeting, nearest-of, refusal, well-arrive, well-at, well-depart}
+use Prim.Native.Nat.{_+_, suc, ℕ}
+use Rattle.working.proofs.Changes.{Change, Sound, arrival, departure, emptying, meeting, refusal, well-at}
+use Rattle.working.proofs.Clauses.{Numbered}
+use Rattle.working.proofs.Every.{Every, every-map}
 use Rattle.working.proofs.Invariant.{granted, trainOne, trains}
-use Rattle.working.proofs.Line.{Every, every-insert, every-map, every-rest, every-turn, number-same}
+use Rattle.working.proofs.Line.{eqb-sym, every-end, every-insert, every-turn, number-same}
 use Rattle.working.proofs.Made.{line-after, line-with}
-use Rattle.working.proofs.Meeting.{turn-length}
 use Rattle.working.proofs.Plans.{Departs}
 use Rattle.working.proofs.Sides.{moves-weight, movesOf}
-use Rattle.working.proofs.Tests.{both}
 use Rattle.working.specs.Acts.{Act}
 use Rattle.working.specs.Demand3.{grantedIn, ofStation}
 use Rattle.working.specs.Departures.{Departure, Kind, departureBy, departureOf, departureWith, ifOf, kindIn, kindOf, laterOr, leftOnTrain, leftSlowly}
-use Rattle.working.specs.Effects.{Departing}
+use Rattle.working.specs.Effects.{Departing, arriveDesk}
 use Rattle.working.specs.Events.{At, Bad, Begin, Decoded, Meet, Resume, Says, decode}
 use Rattle.working.specs.Runs.{Done}
 use Rattle.working.specs.Sections.{deskOf, insertAt, lineOf, numberAt}
 use Rattle.working.specs.Steps.{metAt, turnAt, turned}
-use Rattle.working.specs.WellMade.{all, isFrom, isOpener, numbered, oneIf, sumOver}
+use Rattle.working.specs.WellMade.{isOpener, oneIf, sumOver}
 use Rattle.working.specs.declared.Answer.the-variants.{Accepted, Refused}
-use Rattle.working.specs.declared.Desk.{Desk}
-use Rattle.working.specs.declared.Movement.{Movement}
 use Rattle.working.specs.declared.Refusal.{Refusal}
 use Rattle.working.specs.declared.Section.{Section}
-use Rattle.working.specs.declared.Speed.{Speed}
-use Rattle.working.specs.declared.Station.the-variants.{A}
 use Rattle.working.specs.declared.Station.{Station}
 use Rattle.working.specs.declared.Stepped.{Stepped}
 use Rattle.working.specs.declared.Vehicle.{Vehicle}
-use borrow.Author.Tests.{eq-eqb, eqb-true, leb-true, ne-eqb}
-use lib.Dec.{eqb, leb}
-use lib.ListN.{length}
+use borrow.Author.Tests.{eq-eqb, ne-eqb}
+use lib.Dec.{eqb}
 use mathlib.Core.Bool.{Bool, _&&_, cond, false, true}
 use mathlib.Core.List.{List, [], _++_, _∷_}
 use mathlib.Core.Option.{Option, none, some}
@@ -55,7 +50,8 @@ later-assoc none b c = refl
 later-assoc (some p) b c = refl
 
 -- one more step at the end of the list
-departure-snoc : (h : List Done) (d : Done) (v : Vehicle) → departureOf (h ++ d ∷ []) v ≡ laterOr (ifOf v (departureBy (decode (d .bytes)) (d .answer))) (departureOf h v)
+departure-snoc : (h : List Done) (d : Done) (v : Vehicle)
+    → departureOf (h ++ d ∷ []) v ≡ laterOr (ifOf v (departureBy (decode (d .bytes)) (d .answer))) (departureOf h v)
 departure-snoc [] d v = sym (later-none (ifOf v (departureBy (decode (d .bytes)) (d .answer))))
 departure-snoc (k ∷ h) d v =
     ap (λ (q : Option Departure). laterOr q (ifOf v (departureBy (decode (k .bytes)) (k .answer)))) (departure-snoc h d v)
@@ -89,21 +85,16 @@ module _ (h : List Done) (d : Done) where
 
   -- it is one, with the next form number of its station
   module _ (p : Departure) (last : ℕ) (e : departureBy (decode (d .bytes)) (d .answer) ≡ some p) (n : p .number ≡ last + 1) where
-    not-its : (v : Vehicle) → numbered (numberAt (p .station)) last v ≡ true → ifOf v (departureBy (decode (d .bytes)) (d .answer)) ≡ none
-    not-its v num = ap (ifOf v) e ∙ ap (λ (b : Bool). cond b (some p) none) (go (eqb (numberAt (p .station)) (v .sender)) refl)
+    not-its : (v : Vehicle) → Numbered (numberAt (p .station)) last v → ifOf v (departureBy (decode (d .bytes)) (d .answer)) ≡ none
+    not-its v number = ap (ifOf v) e ∙ ap (λ (b : Bool). cond b (some p) none) (by (eqb (numberAt (p .station)) (v .sender)) refl)
       where
-        go : (b : Bool) → eqb (numberAt (p .station)) (v .sender) ≡ b → (b && eqb (p .number) (v .form)) ≡ false
-        go false q = refl
-        go true q =
-            let from : isFrom (numberAt (p .station)) v ≡ true = eq-eqb (v .sender) (numberAt (p .station)) (sym (eqb-true (numberAt (p .station)) (v .sender) q)) in
-            let r : (leb 1 (v .form) && leb (v .form) last) ≡ true = rw from at num in
-            ne-eqb (p .number) (v .form) (λ z. omega (arith, leb-true (v .form) last (both (leb 1 (v .form)) (leb (v .form) last) r .1)))
+        by : (b : Bool) → eqb (numberAt (p .station)) (v .sender) ≡ b → (b && eqb (p .number) (v .form)) ≡ false
+        by true is = ne-eqb (p .number) (v .form) (λ same. omega (arith, number (eqb-sym (v .sender) (numberAt (p .station)) ∙ is)))
+        by false is = refl
 
-    one-more : (l : List Vehicle) → all (numbered (numberAt (p .station)) last) l ≡ true → Every (Told h) l → Every (Told (h ++ d ∷ [])) l
-    one-more [] num t = tt
-    one-more (v ∷ l) num t =
-        let a = both (numbered (numberAt (p .station)) last v) (all (numbered (numberAt (p .station)) last) l) num in
-        (told-still v (not-its v (a .0)) (t .0), one-more l (a .1) (t .1))
+    one-more : (l : List Vehicle) → Every (Numbered (numberAt (p .station)) last) l → Every (Told h) l → Every (Told (h ++ d ∷ [])) l
+    one-more [] number t = tt
+    one-more (v ∷ l) number t = (told-still v (not-its v (number .0)) (t .0), one-more l (number .1) (t .1))
 
 -- a refused step is none
 refused-none : (e : Decoded) (why : Refusal) → departureBy e (Refused why) ≡ none
@@ -127,33 +118,30 @@ told-depart h d s g told x time act p leaves q a =
     let v = p .vehicle in
     let this : Departure = record { station = x; kind = kindIn (v .movement); number = v .form; forms = p .order .forms; speed = p .order .speed } in
     let by : departureBy (decode (d .bytes)) (d .answer) ≡ some this = rw (q, a, leaves .kind) in
-    let its : ifOf v (departureBy (decode (d .bytes)) (d .answer)) ≡ some this = ap (ifOf v) by ∙ rw (leaves .sender, number-same x, eq-eqb (v .form) (v .form) refl) in
+    let its : ifOf v (departureBy (decode (d .bytes)) (d .answer)) ≡ some this = rw (by, leaves .sender, number-same x, eq-eqb (v .form) (v .form) refl) in
     every-insert (Told (h ++ d ∷ [])) x v (lineOf s)
     (record { by = this; is = departure-snoc h d v ∙ ap (λ (k : Option Departure). laterOr k (departureOf h v)) its; kind = refl; slowly = leaves .slowly })
     (one-more h d this (deskOf s x .last) by (leaves .form) (lineOf s) (well-at s x g .own .number) told)
 
-pub told-change : (h : List Done) (d : Done) (s : Section) (e : Decoded) (r : Stepped) → Sound s → Change s e r → decode (d .bytes) ≡ e → d .answer ≡ r .answer
+pub told-change : (h : List Done) (d : Done) (s : Section) (e : Decoded) (r : Stepped) → Sound s → Change s e r → decode (d .bytes) ≡ e
+    → d .answer ≡ r .answer
     → Every (Told h) (lineOf s) → Every (Told (h ++ d ∷ [])) (lineOf (r .section))
 told-change h d s e r g (refusal k why) q a t = none-more h d (ap (departureBy (decode (d .bytes))) a ∙ refused-none (decode (d .bytes)) why) (lineOf s) t
-told-change h d s e r g (emptying k force n) q a t = tt
-told-change h d s e r g (departure x time act {p} f leaves) q a t =
-    rw (line-after s x (p .desk) (insertAt x (p .vehicle) (lineOf s)) (well-depart s act x p g leaves .fits)) (told-depart h d s g t x time act p leaves q a)
-told-change h d s e r g (arrival x time y n f named may) q a t =
-    let by : departureBy (decode (d .bytes)) (d .answer) ≡ none = rw q in
-    let k = nearest-of y n x (lineOf s) named in
-    let fits = well-arrive s x time (k .vehicle) (k .others) g (k .line) (rw (k .near) at may) .fits in
-    rw (k .rest, line-after s x _ (k .others) fits)
-    (none-more h d by (k .others) (every-rest (Told h) x (k .vehicle) (k .others) (rw (k .line) at t)))
-told-change h d s e r g (meeting x y n i f m) q a t =
-    let by : departureBy (decode (d .bytes)) (d .answer) ≡ none = rw q in
-    let fits : length (metAt x i (lineOf s)) ≤ 24 = omega (arith, turn-length x (suc i) (turnAt x i (lineOf s)), turn-length x i (lineOf s), well-at s A g .fits) in
-    rw (line-with 24 (metAt x i (lineOf s)) fits)
-    (none-more h d by (metAt x i (lineOf s))
+told-change h d s e r g (emptying k force) q a t = tt
+told-change h d s e r g (departure x time act {p} f leaves w) q a t =
+    rw (line-after s x (p .desk) (insertAt x (p .vehicle) (lineOf s)) (w .fits)) (told-depart h d s g t x time act p leaves q a)
+told-change h d s e r g (arrival x time y n k f may w) q a t =
+    rw (line-after s x (arriveDesk x (deskOf s x) time (k .vehicle)) (k .others) (w .fits))
+    (none-more h d (rw q) (k .others) (every-end (Told h) x (k .vehicle) (k .others) (rw (k .line) at t) .0))
+told-change h d s e r g (meeting x y n i f w) q a t =
+    rw (line-with 24 (metAt x i (lineOf s)) (w .fits))
+    (none-more h d (rw q) (metAt x i (lineOf s))
     (every-turn (Told h) x (told-turned h x) (suc i) (turnAt x i (lineOf s)) (every-turn (Told h) x (told-turned h x) i (lineOf s) t)))
 
 -- ---- what the departures say of the line
 
-pub trains-told : (h : List Done) (y : Station) (l : List Vehicle) → Every (Told h) l → sumOver (ofStation y (λ v. oneIf (leftOnTrain (departureOf h v)))) l ≡ trains (movesOf y l)
+pub trains-told : (h : List Done) (y : Station) (l : List Vehicle) → Every (Told h) l
+    → sumOver (ofStation y (λ v. oneIf (leftOnTrain (departureOf h v)))) l ≡ trains (movesOf y l)
 trains-told h y l t = moves-weight y (λ v. oneIf (leftOnTrain (departureOf h v))) trainOne l (every-map (Told h) _ (λ v k. rw (k .is, k .kind)) l t)
 
 pub granted-line : (y : Station) (l : List Vehicle) → sumOver (ofStation y (λ v. grantedIn (v .movement))) l ≡ granted (movesOf y l)

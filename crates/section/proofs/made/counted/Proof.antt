@@ -7,11 +7,8 @@ use borrow.Author.Needs.{needs}
 use lib.Dec.{eqb}
 use native.Mathlib.Omega.{arith}
 
-one-if-requires : tie.Need-one-if-requires
-one-if-requires c κs = search needs
-
-add-t7 : tie.Need-add-t7
-add-t7 c =
+one-more : tie.Need-add-t7
+one-more c =
     let a = c .before .before .before .args in
     omega (arith, one-most (eqb (a .v .sender) (a .sender)))
 
@@ -19,4 +16,4 @@ returns : tie.Need-returns
 returns c = rw (c .before .before .before .before .one-if .ensures)
 
 pub counted-spec : {M : Type 1} → statement M
-counted-spec = tie.close (tie.spec one-if-requires add-t7 returns)
+counted-spec = tie.close (tie.spec (λ c κs. search needs) one-more returns)

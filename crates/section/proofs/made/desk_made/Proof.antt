@@ -5,11 +5,5 @@ use Rattle.section.proofs.made.desk_made.Tie as tie
 use borrow.Author.Needs.{needs}
 use mathlib.Core.Bool.{and-assoc, and-true}
 
-is-not-later-requires : tie.Need-is-not-later-requires
-is-not-later-requires c κs = search needs
-
-returns : tie.Need-returns
-returns c = rw (c .before .is-not-later .ensures) (simp (and-assoc, and-true))
-
 pub desk-made-spec : {M : Type 1} → statement M
-desk-made-spec = tie.close (tie.spec is-not-later-requires returns)
+desk-made-spec = tie.close (tie.spec (λ c κs. search needs) (λ c. rw (c .before .is-not-later .ensures) (simp (and-assoc, and-true))))

@@ -1,66 +1,33 @@
--- `made::forms_differ` meets its contract. The loop's invariant: the vehicles from place `i` on differ among themselves.
+-- `made::forms_differ` meets its contract. The loop is a pass down: the vehicles from place `i` on differ among themselves.
 -- Assumes nothing.
-use Prim.Native.Nat.{_≤_}
-use Rattle.section.proofs.Passes.{drop-down, drop-end}
+use Rattle.section.proofs.Passes.{Pass, begins, ends, goes-on}
 use Rattle.section.proofs.made.forms_differ.Statement.{statement}
 use Rattle.section.proofs.made.forms_differ.Tie as tie
 use Rattle.working.specs.Sections.{unused}
-use Rattle.working.specs.WellMade as made
+use Rattle.working.specs.WellMade.{differ}
 use borrow.Author.Needs.{needs}
-use lib.ListN.{drop, length, take}
 use mathlib.Core.Bool.{_&&_}
-use mathlib.Core.Path.{_≡_, ap₂}
+use mathlib.Core.Path.{ap₂, refl}
 use native.Mathlib.Omega.{arith}
 
 abbrev Inv-loop : tie.InvT-loop
-Inv-loop len places differ₀ i₀ differ i = (i ≤ len) × (differ ≡ made.differ (drop i (take len places)))
+Inv-loop len places differ₀ i₀ so-far i = Pass differ places 0 len i so-far
 
 abbrev μ-loop : tie.MeasureT-loop
-μ-loop len places differ₀ i₀ differ i = i
+μ-loop len places differ₀ i₀ so-far i = i
 
 loop-holds : tie.Need-loop-holds Inv-loop μ-loop
-loop-holds c =
-    let long : length (c .args .t1) ≡ 24 = search needs in
-    (search needs, rw (drop-end (c .args .t1) (c .args .len) (omega arith)))
-
-sub-i : tie.Need-sub-i Inv-loop μ-loop
-sub-i c = omega arith
-
-mul-differs-from : tie.Need-mul-differs-from Inv-loop μ-loop
-mul-differs-from c = omega arith
-
-array-copy-out-differs-from : tie.Need-array-copy-out-differs-from Inv-loop μ-loop
-array-copy-out-differs-from c = omega arith
-
-differs-from-requires : tie.Need-differs-from-requires Inv-loop μ-loop
-differs-from-requires c κs = search needs
-
-loop-less : tie.Need-loop-less Inv-loop μ-loop
-loop-less c = omega arith
+loop-holds c = begins differ (c .args .t1) 0 (c .args .len) (search needs) (search needs) refl
 
 loop-again : tie.Need-loop-again Inv-loop μ-loop
 loop-again c =
-    let l = c .before .before .before .loop in
     let a = c .before .before .before .before .args in
-    let long : length (a .t1) ≡ 24 = search needs in
-    (omega arith, rw (drop-down (a .t1) (a .len) (omega arith) (l .i) unused (omega arith) (omega arith)) (ap₂ _&&_ (c .differs-from .ensures) (l .inv .1)))
+    let pass = c .before .before .before .loop .inv in
+    goes-on differ (a .t1) 0 (a .len) (search needs) pass (omega arith) unused (ap₂ _&&_ (c .differs-from .ensures) (pass .says))
 
 returns : tie.Need-returns Inv-loop μ-loop
-returns c =
-    let done : c .before .loop .i ≡ 0 = omega arith in
-    rw done at (c .before .loop .inv .1)
+returns c = let a = c .before .before .args in ends differ (a .t1) 0 (a .len) (search needs) (c .before .loop .inv) (omega arith)
 
 pub forms-differ-spec : {M : Type 1} → statement M
-forms-differ-spec =
-    tie.close
-    (tie.spec
-    Inv-loop
-    μ-loop
-    loop-holds
-    sub-i
-    mul-differs-from
-    array-copy-out-differs-from
-    differs-from-requires
-    loop-less
-    loop-again
-    returns)
+forms-differ-spec = tie.close (tie.spec Inv-loop μ-loop loop-holds
+    (λ c. omega arith) (λ c. omega arith) (λ c. omega arith) (λ c κs. search needs) (λ c. omega arith) loop-again returns)

@@ -5,11 +5,8 @@ use Rattle.section.proofs.made.is_fresh.Tie as tie
 use borrow.Author.Needs.{needs}
 use mathlib.Core.Bool.{and-assoc, and-true}
 
-is-stopped-requires : tie.Need-is-stopped-requires
-is-stopped-requires c κs = search needs
-
 returns : tie.Need-returns
 returns c = simp (and-assoc, and-true) (rw (c .before .before .before .before .before .is-stopped .ensures))
 
 pub is-fresh-spec : {M : Type 1} → statement M
-is-fresh-spec = tie.close (tie.spec is-stopped-requires returns)
+is-fresh-spec = tie.close (tie.spec (λ c κs. search needs) returns)

@@ -11,17 +11,8 @@ either true true y = refl
 either true false y = refl
 either false x y = refl
 
-is-shaped-requires : tie.Need-is-shaped-requires
-is-shaped-requires c κs = search needs
-
-counted-requires : tie.Need-counted-requires
-counted-requires c κs = search needs
-
-counted-requires-2 : tie.Need-counted-requires-2
-counted-requires-2 c κs = search needs
-
 returns : tie.Need-returns
 returns c = rw (c .counted2 .ensures, c .before .counted .ensures, c .before .before .before .before .is-shaped .ensures) (simp either)
 
 pub seen-spec : {M : Type 1} → statement M
-seen-spec = tie.close (tie.spec is-shaped-requires counted-requires counted-requires-2 returns)
+seen-spec = tie.close (tie.spec (λ c κs. search needs) (λ c κs. search needs) (λ c κs. search needs) returns)

@@ -1,7 +1,6 @@
--- `made::survey_of` meets its contract. The loop's invariant: the vehicles from place `i` on are surveyed.
+-- `made::survey_of` meets its contract. The loop is a pass down: the vehicles from place `i` on are surveyed, fewer than 24, so that one more can be counted.
 -- Assumes nothing.
-use Prim.Native.Nat.{_≤_}
-use Rattle.section.proofs.Passes.{drop-down, drop-end}
+use Rattle.section.proofs.Passes.{Pass, begins, ends, goes-on}
 use Rattle.section.proofs.Tallies.{room}
 use Rattle.section.proofs.made.survey_of.Statement.{statement}
 use Rattle.section.proofs.made.survey_of.Tie as tie
@@ -9,62 +8,36 @@ use Rattle.section.specs.Made.{surveyOf}
 use Rattle.working.specs.Sections.{unused}
 use borrow.Author.Needs.{needs}
 use lib.ListN.{drop, length, length-drop, length-take, take}
-use mathlib.Core.Path.{_≡_}
+use mathlib.Core.Path.{_≡_, refl}
 use native.Mathlib.Omega.{arith}
 
 abbrev Inv-loop : tie.InvT-loop
-Inv-loop len last-a last-b places line₀ i₀ line i = (i ≤ len) × (line ≡ surveyOf last-a last-b (drop i (take len places)))
+Inv-loop len last-a last-b places line₀ i₀ line i = Pass (surveyOf last-a last-b) places 0 len i line
 
 abbrev μ-loop : tie.MeasureT-loop
 μ-loop len last-a last-b places line₀ i₀ line i = i
 
 loop-holds : tie.Need-loop-holds Inv-loop μ-loop
-loop-holds c =
-    let long : length (c .args .t1) ≡ 24 = search needs in
-    (search needs, rw (drop-end (c .args .t1) (c .args .len) (omega arith)))
-
-sub-i : tie.Need-sub-i Inv-loop μ-loop
-sub-i c = omega arith
-
-mul-seen : tie.Need-mul-seen Inv-loop μ-loop
-mul-seen c = omega arith
-
-array-copy-out-seen : tie.Need-array-copy-out-seen Inv-loop μ-loop
-array-copy-out-seen c = omega arith
+loop-holds c = let a = c .args in begins (surveyOf (a .last-a) (a .last-b)) (a .t1) 0 (a .len) (search needs) (search needs) refl
 
 seen-requires : tie.Need-seen-requires Inv-loop μ-loop
 seen-requires c κs =
     let l = c .before .before .loop in
     let a = c .before .before .before .args in
     let long : length (a .t1) ≡ 24 = search needs in
-    rw (l .inv .1) (room (a .last-a) (a .last-b) (drop (l .i) (take (a .len) (a .t1))) (simp (length-drop, length-take) (omega arith)))
-
-loop-less : tie.Need-loop-less Inv-loop μ-loop
-loop-less c = omega arith
+    rw (l .inv .says) (room (a .last-a) (a .last-b) (drop (l .i) (take (a .len) (a .t1))) (simp (length-drop, length-take) (omega arith)))
 
 loop-again : tie.Need-loop-again Inv-loop μ-loop
 loop-again c =
-    let l = c .before .before .before .loop in
     let a = c .before .before .before .before .args in
-    let long : length (a .t1) ≡ 24 = search needs in
-    (omega arith, rw (drop-down (a .t1) (a .len) (omega arith) (l .i) unused (omega arith) (omega arith), c .seen .ensures, l .inv .1))
+    let pass = c .before .before .before .loop .inv in
+    goes-on (surveyOf (a .last-a) (a .last-b)) (a .t1) 0 (a .len) (search needs) pass (omega arith) unused (rw (c .seen .ensures, pass .says))
 
 returns : tie.Need-returns Inv-loop μ-loop
 returns c =
-    let done : c .before .loop .i ≡ 0 = omega arith in
-    rw done at (c .before .loop .inv .1)
+    let a = c .before .before .args in
+    ends (surveyOf (a .last-a) (a .last-b)) (a .t1) 0 (a .len) (search needs) (c .before .loop .inv) (omega arith)
 
 pub survey-of-spec : {M : Type 1} → statement M
-survey-of-spec =
-    tie.close
-    (tie.spec
-    Inv-loop
-    μ-loop
-    loop-holds
-    sub-i
-    mul-seen
-    array-copy-out-seen
-    seen-requires
-    loop-less
-    loop-again
-    returns)
+survey-of-spec = tie.close (tie.spec Inv-loop μ-loop loop-holds
+    (λ c. omega arith) (λ c. omega arith) (λ c. omega arith) seen-requires (λ c. omega arith) loop-again returns)

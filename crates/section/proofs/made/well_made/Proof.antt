@@ -16,34 +16,13 @@ joined : (blank shaped ordered differ a b force empty freshA freshB : Bool)
     ≡ (blank && (shaped && (ordered && (differ && (a && (b && ((force || empty && (freshA && (freshB && true))) && true)))))))
 joined blank shaped ordered differ a b force empty freshA freshB = simp (and-assoc, and-true)
 
-returns : tie.Need-returns
+too-long : tie.Need-returns
 unfolding wellMade
-returns c = rw (lt-leb _ _ (c .if1 .taken))
+too-long c = rw (lt-leb _ _ (c .if1 .taken))
 
-survey-of-requires : tie.Need-survey-of-requires
-survey-of-requires c κs = search needs
-
-blank-from-requires : tie.Need-blank-from-requires
-blank-from-requires c κs = search needs
-
-forms-differ-requires : tie.Need-forms-differ-requires
-forms-differ-requires c κs = search needs
-
-desk-made-requires : tie.Need-desk-made-requires
-desk-made-requires c κs = search needs
-
-desk-made-requires-2 : tie.Need-desk-made-requires-2
-desk-made-requires-2 c κs = search needs
-
-is-fresh-requires : tie.Need-is-fresh-requires
-is-fresh-requires c κs = search needs
-
-is-fresh-requires-2 : tie.Need-is-fresh-requires-2
-is-fresh-requires-2 c κs = search needs
-
-returns-2 : tie.Need-returns-2
+returns : tie.Need-returns-2
 unfolding wellMade
-returns-2 c =
+returns c =
     let fresh = c .before in
     let desks = fresh .before .before in
     let forms = desks .before .before in
@@ -54,18 +33,19 @@ returns-2 c =
     let line = survey .survey-of .result in
     joined (blank .blank-from .result) (line .shaped) (line .ordered) (forms .forms-differ .result)
     (desks .before .desk-made .result) (desks .desk-made2 .result) (s .force) (eqb (s .len) 0) (fresh .before .is-fresh .result) (fresh .is-fresh2 .result)
-    ∙ rw (le-leb _ _ (within .if1 .left), blank .blank-from .ensures, forms .forms-differ .ensures, desks .before .desk-made .ensures, desks .desk-made2 .ensures, fresh .before .is-fresh .ensures, fresh .is-fresh2 .ensures, survey .survey-of .ensures)
+    ∙ rw (
+      le-leb _ _ (within .if1 .left),
+      blank .blank-from .ensures,
+      forms .forms-differ .ensures,
+      desks .before .desk-made .ensures,
+      desks .desk-made2 .ensures,
+      fresh .before .is-fresh .ensures,
+      fresh .is-fresh2 .ensures,
+      survey .survey-of .ensures,
+    )
 
 pub well-made-spec : {M : Type 1} → statement M
-well-made-spec =
-    tie.close
-    (tie.spec
-    returns
-    survey-of-requires
-    blank-from-requires
-    forms-differ-requires
-    desk-made-requires
-    desk-made-requires-2
-    is-fresh-requires
-    is-fresh-requires-2
-    returns-2)
+well-made-spec = tie.close (tie.spec too-long
+    (λ c κs. search needs) (λ c κs. search needs) (λ c κs. search needs) (λ c κs. search needs)
+    (λ c κs. search needs) (λ c κs. search needs) (λ c κs. search needs)
+    returns)

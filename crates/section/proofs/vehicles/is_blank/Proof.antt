@@ -5,11 +5,8 @@ use Rattle.section.proofs.vehicles.is_blank.Tie as tie
 use borrow.Author.Needs.{needs}
 use mathlib.Core.Bool.{and-assoc, and-true}
 
-is-blank-movement-requires : tie.Need-is-blank-movement-requires
-is-blank-movement-requires c κs = search needs
-
 returns : tie.Need-returns
 returns c = simp (and-assoc, and-true) (rw (c .before .before .before .before .before .is-blank-movement .ensures))
 
 pub is-blank-spec : {M : Type 1} → statement M
-is-blank-spec = tie.close (tie.spec is-blank-movement-requires returns)
+is-blank-spec = tie.close (tie.spec (λ c κs. search needs) returns)

@@ -5,14 +5,8 @@ use Rattle.section.proofs.vehicles.is_shaped.Tie as tie
 use borrow.Author.Needs.{needs}
 use mathlib.Core.Bool.{and-assoc, and-true}
 
-is-opener-requires : tie.Need-is-opener-requires
-is-opener-requires c κs = search needs
-
-movement-made-requires : tie.Need-movement-made-requires
-movement-made-requires c κs = search needs
-
 returns : tie.Need-returns
 returns c = rw (c .movement-made .ensures, c .before .before .is-opener .ensures) (simp (and-assoc, and-true))
 
 pub is-shaped-spec : {M : Type 1} → statement M
-is-shaped-spec = tie.close (tie.spec is-opener-requires movement-made-requires returns)
+is-shaped-spec = tie.close (tie.spec (λ c κs. search needs) (λ c κs. search needs) returns)

@@ -4,10 +4,9 @@ use Rattle.step.proofs.Becoming.{and-desk, desk-is}
 use Rattle.step.proofs.receipts.arrive_own.Statement.{statement}
 use Rattle.step.proofs.receipts.arrive_own.Tie as tie
 use Rattle.words.specs.Words.{sectionIn, withOut}
-use Rattle.working.proofs.Tests.{false-true}
 use Rattle.working.specs.WellMade.{isOpener}
 use borrow.Author.Needs.{needs}
-use mathlib.Core.Bool.{false, true}
+use mathlib.Core.Bool.{false, false≢true, true}
 use mathlib.Core.Path.{_∙_, _≡_, ap, sym}
 
 abbrev start-of : tie.After-put-receipt → tie.Start
@@ -36,10 +35,10 @@ returns-2 c =
 
 -- no other of the station's own may enter
 returns-3 : tie.Need-returns-3
-returns-3 c = absurd (false-true (sym (ap isOpener (c .enum-told3 .given .1)) ∙ start-of (c .before .before) .pre .1))
+returns-3 c = absurd (false≢true (sym (ap isOpener (c .enum-told3 .given .1)) ∙ start-of (c .before .before) .pre .1))
 
 returns-4 : tie.Need-returns-4
-returns-4 c = absurd (false-true (sym (ap isOpener (c .enum-told4 .given .1)) ∙ start-of (c .before .before) .pre .1))
+returns-4 c = absurd (false≢true (sym (ap isOpener (c .enum-told4 .given .1)) ∙ start-of (c .before .before) .pre .1))
 
 pub arrive-own-spec : {M : Type 1} → statement M
 arrive-own-spec =

@@ -1,0 +1,138 @@
+-- Well made, clause by clause: each list of tests of specs/WellMade as a record that names them, and back.
+-- Assumes nothing.
+use Prim.Native.Nat.{_≤_, ℕ}
+use Rattle.working.proofs.Every.{Every, all-every, every-all}
+use Rattle.working.proofs.Tests.{Each, and, both, each-holds, every-holds}
+use Rattle.working.specs.Entries.{every}
+use Rattle.working.specs.Sections.{deskOf, lineOf, numberAt}
+use Rattle.working.specs.WellMade.{all, countFrom, deskTests, differ, isBlank, isFrom, isIdle, isOpener, madeTests, movementTests, notLater, numbered, ordered, shaped, vehicleTests, wellMade}
+use Rattle.working.specs.declared.Desk.{Desk}
+use Rattle.working.specs.declared.Movement.the-variants.{Open, Return, Through, Train}
+use Rattle.working.specs.declared.Movement.{Movement}
+use Rattle.working.specs.declared.Section.{Section}
+use Rattle.working.specs.declared.Station.the-variants.{A, B}
+use Rattle.working.specs.declared.Station.{Station}
+use Rattle.working.specs.declared.Vehicle.{Vehicle}
+use borrow.Author.Tests.{eq-eqb, eqb-true, le-leb, leb-true}
+use lib.Dec.{eqb, leb}
+use lib.ListN.{drop}
+use mathlib.Core.Bool.{Bool, _&&_, _||_, false, not, true}
+use mathlib.Core.List.{List}
+use mathlib.Core.Path.{_≡_, refl}
+use native.Mathlib.Omega.{arith}
+
+-- ---- what a vehicle left on
+
+-- a class c from `low` to `high`, asked a, at least `some`, and granted g
+pub record Carried (low high some c a g : ℕ) : Type 0 where
+  pub least : low ≤ c
+  pub most : c ≤ high
+  pub asks : some ≤ a
+  pub asked : a ≤ 8
+  pub granted : g ≤ 8
+
+-- asked and granted alone
+abbrev pub Few : ℕ → ℕ → Type 0
+Few a g = Carried 0 0 0 0 a g
+
+abbrev pub MovementMade : Movement → ℕ → Type 0
+MovementMade (Open a) c = Carried 1 5 1 c a 0
+MovementMade Through c = Carried 1 1 0 c 0 0
+MovementMade (Return a g) c = Carried 1 5 0 c a g
+MovementMade (Train a g) c = Carried 0 0 0 c a g
+
+pub movement-made : (m : Movement) (c : ℕ) → every (movementTests m c) ≡ true → MovementMade m c
+movement-made m c h = by m (each-holds (movementTests m c) h)
+  where
+    by : (m : Movement) → Each (movementTests m c) → MovementMade m c
+    by (Open a) e = omega (arith, leb-true)
+    by Through e = omega (arith, eqb-true)
+    by (Return a g) e = omega (arith, leb-true)
+    by (Train a g) e = omega (arith, eqb-true, leb-true)
+
+pub movement-tests : (m : Movement) (c : ℕ) → MovementMade m c → every (movementTests m c) ≡ true
+movement-tests m c h = every-holds (movementTests m c) (by m h)
+  where
+    by : (m : Movement) → MovementMade m c → Each (movementTests m c)
+    by (Open a) h = omega (arith, le-leb)
+    by Through h = omega (arith, eq-eqb)
+    by (Return a g) h = omega (arith, le-leb)
+    by (Train a g) h = omega (arith, eq-eqb, le-leb)
+
+-- ---- a vehicle
+
+pub record Shape (v : Vehicle) : Type 0 where
+  pub sender : (eqb (v .sender) 1 || eqb (v .sender) 2) ≡ true
+  pub heading : (eqb (v .heading) 1 || eqb (v .heading) 2) ≡ true
+  pub away : (v .met || not (eqb (v .heading) (v .sender))) ≡ true
+  pub unmet : (isOpener (v .movement) || not (v .met)) ≡ true
+  pub moves : MovementMade (v .movement) (v .class)
+
+pub shape-of : (v : Vehicle) → shaped v ≡ true → Shape v
+shape-of v h = let e = each-holds (vehicleTests v) h in search movement-made depth 12
+
+pub shape-tests : (v : Vehicle) → Shape v → shaped v ≡ true
+shape-tests v s = every-holds (vehicleTests v) (search movement-tests)
+
+-- ---- form numbers
+
+abbrev pub Numbered : ℕ → ℕ → Vehicle → Type 0
+Numbered n last v = isFrom n v ≡ true → (1 ≤ v .form) × (v .form ≤ last)
+
+numbered-made : (n last : ℕ) (v : Vehicle) → numbered n last v ≡ true → Numbered n last v
+numbered-made n last v h from = let p = both (leb 1 (v .form)) (leb (v .form) last) (rw from at h) in omega (arith, leb-true)
+
+numbered-tests : (n last : ℕ) (v : Vehicle) → Numbered n last v → numbered n last v ≡ true
+numbered-tests n last v f = by (isFrom n v) refl
+  where
+    by : (b : Bool) → isFrom n v ≡ b → (not b || (leb 1 (v .form) && leb (v .form) last)) ≡ true
+    by true from = let p = f from in and (leb 1 (v .form)) (leb (v .form) last) (omega (arith, le-leb)) (omega (arith, le-leb))
+    by false from = refl
+
+-- ---- a desk
+
+-- its figures in range
+pub record Bounds (d : Desk) : Type 0 where
+  pub guest : d .guest ≤ 5
+  pub asked : d .clears .asked ≤ 8
+  pub holds : d .clears .holds ≤ 8
+  pub owes : d .clears .owes ≤ 8
+
+-- the desk of station number n beside the line l
+pub record DeskMade (n : ℕ) (d : Desk) (l : List Vehicle) : Type 0 where
+  pub last : d .last ≤ 9999
+  pub sent : d .sent ≤ 12
+  pub present : countFrom n l ≤ d .sent
+  pub bounds : Bounds d
+  pub interval : notLater (d .interval) (d .clock) ≡ true
+  pub number : Every (Numbered n (d .last)) l
+
+pub desk-made : (n : ℕ) (d : Desk) (l : List Vehicle) → every (deskTests n d l) ≡ true → DeskMade n d l
+desk-made n d l h = let e = each-holds (deskTests n d l) h in search (leb-true, all-every, numbered-made, arith) depth 12
+
+pub desk-tests : (n : ℕ) (d : Desk) (l : List Vehicle) → DeskMade n d l → every (deskTests n d l) ≡ true
+desk-tests n d l m = every-holds (deskTests n d l) (search (le-leb, every-all, numbered-tests, arith) depth 12)
+
+-- ---- the section
+
+pub record SectionMade (s : Section) : Type 0 where
+  pub fits : s .len ≤ 24
+  pub blank : all isBlank (drop (s .len) (s .vehicles)) ≡ true
+  pub shape : Every Shape (lineOf s)
+  pub order : ordered (lineOf s) ≡ true
+  pub distinct : differ (lineOf s) ≡ true
+  pub a : DeskMade 1 (s .a) (lineOf s)
+  pub b : DeskMade 2 (s .b) (lineOf s)
+  pub idle : (s .force || isIdle s) ≡ true
+
+pub section-made : (s : Section) → wellMade s ≡ true → SectionMade s
+unfolding wellMade
+section-made s h = let e = each-holds (madeTests s) h in search (leb-true, all-every, shape-of, desk-made, arith) depth 12
+
+pub section-tests : (s : Section) → SectionMade s → wellMade s ≡ true
+unfolding wellMade
+section-tests s m = every-holds (madeTests s) (search (le-leb, every-all, shape-tests, desk-tests) depth 12)
+
+pub desk-of : (s : Section) (x : Station) → SectionMade s → DeskMade (numberAt x) (deskOf s x) (lineOf s)
+desk-of s A m = m .a
+desk-of s B m = m .b

@@ -3,8 +3,9 @@ use Prim.Native.Nat.{_*_, _+_, _<_, suc, zero, ℕ}
 use Rattle.cases.specs.Figures.{placesAt, vehicleAt}
 use Rattle.working.specs.Sections.{unused}
 use Rattle.working.specs.declared.Vehicle.{Vehicle}
-use lib.ListN.{getD, length}
-use lib.Seq.{ext-getD}
+use borrow.Author.Count.{below-more}
+use lib.ListN.{getD, length, set}
+use lib.Seq.{ext-getD, getD-set-other, getD-set-same}
 use mathlib.Core.List.{List}
 use mathlib.Core.Path.{_∙_, _≡_, ap, refl, sym}
 use native.Mathlib.Omega.{arith}
@@ -24,3 +25,12 @@ pub all-places : (figures : List ℕ) (places : List Vehicle) → length places 
 all-places figures places long each =
     ext-getD unused places (placesAt 24 figures 0) (long ∙ sym (places-length 24 figures 0))
     (λ k h. sym (each k (omega arith)) ∙ sym (place-at 24 k figures 0 (omega arith) ∙ ap (vehicleAt figures) (omega arith)))
+
+-- with the vehicle of the next place stored, one more place is read
+pub place-more : (figures : List ℕ) (places : List Vehicle) (i : ℕ) (v : Vehicle) → i < length places
+    → ((k : ℕ) → k < i → vehicleAt figures (k * 9) ≡ getD places k unused) → vehicleAt figures (i * 9) ≡ v
+    → (k : ℕ) → k < i + 1 → vehicleAt figures (k * 9) ≡ getD (set places i v) k unused
+place-more figures places i v less each here =
+    below-more (λ k. vehicleAt figures (k * 9) ≡ getD (set places i v) k unused) i
+    (λ k h. rw (getD-set-other places i k v unused (λ e. omega arith)) (each k h))
+    (rw (getD-set-same places i v unused less) here)

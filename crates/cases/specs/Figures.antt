@@ -1,5 +1,6 @@
 -- docs/CASES.md: what the figures of a section say, and those of an entry.
 use Prim.Native.Nat.{_*_, _+_, suc, zero, ℕ}
+use Rattle.working.specs.declared.Clears.{Clears}
 use Rattle.working.specs.declared.Desk.{Desk}
 use Rattle.working.specs.declared.Entry.{Entry}
 use Rattle.working.specs.declared.Interval.the-variants.{Since, Stopped}
@@ -44,6 +45,10 @@ placesAt (suc count) figures at = vehicleAt figures at ∷ placesAt count figure
 abbrev pub intervalOf : ℕ → ℕ → Interval
 intervalOf running minute = cond (eqb running 1) (Since minute) Stopped
 
+-- "asked 1, holds 1, owes 1"
+abbrev pub clearsAt : List ℕ → ℕ → Clears
+clearsAt figures at = record { asked = byteAt figures at; holds = byteAt figures (at + 1); owes = byteAt figures (at + 2) }
+
 -- the thirteen bytes of a desk
 abbrev pub deskAt : List ℕ → ℕ → Desk
 deskAt figures at = record {
@@ -53,9 +58,7 @@ deskAt figures at = record {
   interval = intervalOf (byteAt figures (at + 5)) (numberAt figures (at + 6));
   out = eqb (byteAt figures (at + 8)) 1;
   guest = byteAt figures (at + 9);
-  asked = byteAt figures (at + 10);
-  holds = byteAt figures (at + 11);
-  owes = byteAt figures (at + 12);
+  clears = clearsAt figures (at + 10);
 }
 
 -- the 248 bytes of a section

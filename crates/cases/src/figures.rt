@@ -1,10 +1,11 @@
 // A section in figures: the 248 bytes of docs/CASES.md.
 ghost use Prim.Native.Nat.{_*_, _+_, _≤_};
-ghost use Rattle.cases.specs.Figures.{deskAt, entryIn, intervalOf, movementOf, numberAt, placesAt, sectionIn, vehicleAt};
+ghost use Rattle.cases.specs.Figures.{clearsAt, deskAt, entryIn, intervalOf, movementOf, numberAt, placesAt, sectionIn, vehicleAt};
 ghost use lib.ListN.{length};
 ghost use mathlib.Core.Path.{_≡_};
 use crate::input::number;
 use crate::text::put_bytes;
+use working::Clears;
 use working::Desk;
 use working::Entry;
 use working::Interval;
@@ -86,6 +87,18 @@ fn interval_in(running: u8, minute: u16) -> Interval
     }
 }
 
+// The three bytes of the line clears at a desk.
+fn clears_in(figures: &[u8], at: usize) -> Clears
+    requires { ⌜ at + 3 ≤ length (now figures) ⌝ }
+    ensures { λ r. ⌜ r ≡ clearsAt (now (figures .entry)) at ⌝ }
+{
+    Clears {
+        asked: figures[at],
+        holds: figures[at + 1],
+        owes: figures[at + 2],
+    }
+}
+
 // The thirteen bytes of a desk.
 fn desk_in(figures: &[u8], at: usize) -> Desk
     requires { ⌜ at + 13 ≤ length (now figures) ⌝ }
@@ -98,9 +111,7 @@ fn desk_in(figures: &[u8], at: usize) -> Desk
         interval: interval_in(figures[at + 5], number_at(figures, at + 6)),
         out: figures[at + 8] == 1,
         guest: figures[at + 9],
-        asked: figures[at + 10],
-        holds: figures[at + 11],
-        owes: figures[at + 12],
+        clears: clears_in(figures, at + 10),
     }
 }
 
@@ -196,6 +207,7 @@ fn interval_figures(interval: Interval) -> [u8; 3] {
 fn desk_figures(desk: Desk) -> [u8; 13] {
     let interval = desk.interval;
     let running = interval_figures(interval);
+    let clears = desk.clears;
     [
         (desk.clock / 256) as u8,
         (desk.clock % 256) as u8,
@@ -207,9 +219,9 @@ fn desk_figures(desk: Desk) -> [u8; 13] {
         running[2],
         one_if(desk.out),
         desk.guest,
-        desk.asked,
-        desk.holds,
-        desk.owes,
+        clears.asked,
+        clears.holds,
+        clears.owes,
     ]
 }
 

@@ -1,11 +1,10 @@
 -- `figures::vehicles_in` meets its contract. The loop's invariant: each vehicle below `i` is the one that the nine bytes of its place say.
 -- Assumes nothing.
 use Prim.Native.Nat.{_*_, _-_, _<_, _≤_, ℕ}
-use Rattle.cases.proofs.Places.{all-places}
+use Rattle.cases.proofs.Places.{all-places, place-more}
 use Rattle.cases.proofs.figures.vehicles_in.Statement.{statement}
 use Rattle.cases.proofs.figures.vehicles_in.Tie as tie
 use Rattle.cases.specs.Figures.{vehicleAt}
-use Rattle.words.proofs.Keeping.{stored-more}
 use Rattle.working.specs.Sections.{unused}
 use borrow.Author.Needs.{needs}
 use lib.ListN.{getD, length, length-set}
@@ -48,7 +47,7 @@ loop-again c =
     let figures = c .before .before .before .before .before .args .figures .now in (
       omega arith,
       simp length-set (l .inv .1),
-      stored-more (λ k v. vehicleAt figures (k * 9) ≡ v) (l .places) (l .i) (c .vehicle-in .result) unused (omega arith) (l .inv .2) (sym (c .vehicle-in .ensures)),
+      place-more figures (l .places) (l .i) (c .vehicle-in .result) (omega arith) (l .inv .2) (sym (c .vehicle-in .ensures)),
     )
 
 returns : tie.Need-returns Inv-loop μ-loop

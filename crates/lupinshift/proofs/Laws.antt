@@ -3,7 +3,7 @@
 -- Assumes nothing.
 use Prim.Native.Nat.{_<_, _≤_, ℕ}
 use Rattle.listing.specs.LineText.{PutsLine, endFigures, lastLine, longestLine}
-use Rattle.lupinshift.specs.Answers.{Ends, Gives, Lists, endOf}
+use Rattle.lupinshift.specs.Answers.{Ends, Gives, Lists, lastLineOf}
 use Rattle.step.proofs.Room.{listing-fits}
 use Rattle.step.proofs.Whole.{room-for-all}
 use Rattle.step.specs.Lines.{FillsIn, begun, largestCount}
@@ -42,7 +42,7 @@ pub ends : (log : List ℕ) {out after : List ℕ} {r : LogEnd} {behind : ℕ} �
     → PutsLine out 0 (lastLine (length log) (endFigures (r .entries) (r .accepted) (r .section))) behind after → Ends log out behind after
 ends log {out} {after} {r} {behind} e put = by (ltb (length out) longestLine) refl
   where
-    line : lastLine (length log) (endFigures (r .entries) (r .accepted) (r .section)) ≡ endOf log
+    line : lastLine (length log) (endFigures (r .entries) (r .accepted) (r .section)) ≡ lastLineOf log
     line = ap (λ (r : LogEnd). lastLine (length log) (endFigures (r .entries) (r .accepted) (r .section))) e
 
     by : (b : Bool) → ltb (length out) longestLine ≡ b → Ends log out behind after

@@ -35,12 +35,12 @@ abbrev pub figuresOf : List ℕ → List ℕ
 figuresOf log = figuresIn fresh (turnsOf fresh log)
 
 -- the last line of its listing
-abbrev pub endOf : List ℕ → List ℕ
-endOf log = lastLine (length log) (figuresOf log)
+abbrev pub lastLineOf : List ℕ → List ℕ
+lastLineOf log = lastLine (length log) (figuresOf log)
 
 -- the last line, where the buffer has room for the longest
 abbrev pub Ends : List ℕ → List ℕ → ℕ → List ℕ → Type 0
-Ends log out = Gives (ltb (length out) longestLine) (endOf log) out
+Ends log out = Gives (ltb (length out) longestLine) (lastLineOf log) out
 
 -- the figures, where there are as many places and the log is not too long: the last line of a longer log has none
 abbrev pub Figures : List ℕ → List ℕ → ℕ → List ℕ → Type 0
@@ -48,10 +48,10 @@ Figures log figures = Gives (ltb longestLog (length log) || ltb (length figures)
 
 -- the last line and the figures are those of the listing: it ends in the one, whatever the log's length, and that is `end` and the others where the log is not too long
 abbrev pub EndsTheListing : Type 0
-EndsTheListing = (log : List ℕ) → listingOf log ≡ joined (linesOf 0 (listedTurns log)) ++ endOf log
+EndsTheListing = (log : List ℕ) → listingOf log ≡ joined (linesOf 0 (listedTurns log)) ++ lastLineOf log
 
 abbrev pub FiguresInTheEnd : Type 0
-FiguresInTheEnd = (log : List ℕ) → length log ≤ longestLog → endOf log ≡ endLine (figuresOf log)
+FiguresInTheEnd = (log : List ℕ) → length log ≤ longestLog → lastLineOf log ≡ endLine (figuresOf log)
 
 -- ---- the last answer
 

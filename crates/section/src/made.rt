@@ -73,7 +73,7 @@ fn survey_of(places: [Vehicle; Section::PLACES], len: usize, last_a: u16, last_b
         count: 0,
         numbered: true,
     };
-    let mut line = Survey {
+    let mut survey = Survey {
         shaped: true,
         ordered: true,
         alone: true,
@@ -83,9 +83,9 @@ fn survey_of(places: [Vehicle; Section::PLACES], len: usize, last_a: u16, last_b
     let mut i = len;
     while 0 < i {
         i -= 1;
-        line = seen(places[i], last_a, last_b, line);
+        survey = seen(places[i], last_a, last_b, survey);
     }
-    line
+    survey
 }
 
 // Whether the places from `from` on are unused.
@@ -185,10 +185,13 @@ pub fn well_made(s: Section) -> bool
     let places = s.vehicles;
     let a = s.a;
     let b = s.b;
-    let line = survey_of(places, len, a.last, b.last);
-    let of_a = line.a;
-    let of_b = line.b;
-    let vehicles = blank_from(places, len) & line.shaped & line.ordered & forms_differ(places, len);
+    let survey = survey_of(places, len, a.last, b.last);
+    let of_a = survey.a;
+    let of_b = survey.b;
+    let vehicles = blank_from(places, len)
+        & survey.shaped
+        & survey.ordered
+        & forms_differ(places, len);
     let desks = desk_made(a, of_a) & desk_made(b, of_b);
     let idle = (len == 0) & is_fresh(a) & is_fresh(b);
     vehicles & desks & (s.force | idle)

@@ -11,7 +11,7 @@ use Rattle.working.specs.Effects.{Plan, Refuse, broughtClears, effectOf, opened
 use Rattle.working.specs.Events.{At, Begin, Event, Meet, Resume}
 use Rattle.working.specs.Reasons.{beginTests, departTests, findOf, mayEnter, mayMeet, receiveTests, resumeTests, stationTests, testsOf}
 use Rattle.working.specs.Refusals.{Test, firstOf}
-use Rattle.working.specs.Sections.{countRefusal, deskOf, emptied, lineOf, nearestAt, withDesk, withLine}
+use Rattle.working.specs.Sections.{countRefusal, deskOf, emptied, vehiclesOf, nearestAt, withDesk, withVehicles}
 use Rattle.working.specs.Steps.{entered, metAt, planOf, settled}
 use Rattle.working.specs.declared.Answer.the-variants.{Accepted}
 use Rattle.working.specs.declared.Answer.{Answer}
@@ -64,48 +64,48 @@ and-desk {w} {w₁} {w₂} s x d {k} f first next =
 pub desk-is : {w w₁ : List ℕ} (s : Section) (x : Station) {d e : Desk} {k : ℕ} → d ≡ e → Becomes w w₁ (withDesk s x d) k → Becomes w w₁ (withDesk s x e) k
 desk-is s x same b = becomes (ap (withDesk s x) same) refl b
 
-line-desk : (s : Section) (l : List Vehicle) (x : Station) → deskOf (withLine s l) x ≡ deskOf s x
-line-desk s l A = refl
-line-desk s l B = refl
+vehicles-desk : (s : Section) (l : List Vehicle) (x : Station) → deskOf (withVehicles s l) x ≡ deskOf s x
+vehicles-desk s l A = refl
+vehicles-desk s l B = refl
 
-line-length : (s : Section) (l : List Vehicle) (x : Station) (d : Desk) → withDesk (withLine s l) x d .len ≡ withLine s l .len
-line-length s l A d = refl
-line-length s l B d = refl
+vehicles-length : (s : Section) (l : List Vehicle) (x : Station) (d : Desk) → withDesk (withVehicles s l) x d .len ≡ withVehicles s l .len
+vehicles-length s l A d = refl
+vehicles-length s l B d = refl
 
-pub line-desk-is : {w w₁ : List ℕ} (s : Section) (l : List Vehicle) (x : Station) {k : ℕ} → Becomes w w₁ (withLine s l) k → deskOf (sectionIn w₁) x ≡ deskOf s x
-line-desk-is s l x b = ap (λ (t : Section). deskOf t x) (b .section) ∙ line-desk s l x
+pub vehicles-desk-is : {w w₁ : List ℕ} (s : Section) (l : List Vehicle) (x : Station) {k : ℕ} → Becomes w w₁ (withVehicles s l) k → deskOf (sectionIn w₁) x ≡ deskOf s x
+vehicles-desk-is s l x b = ap (λ (t : Section). deskOf t x) (b .section) ∙ vehicles-desk s l x
 
 -- the line is changed, and then a desk, which was d
-pub line-and-desk : {w w₁ w₂ : List ℕ} (s : Section) (l : List Vehicle) (x : Station) {d : Desk} {k : ℕ} (f : Desk → Desk) → d ≡ deskOf s x
-    → Becomes w w₁ (withLine s l) k → DeskBecomes w₁ w₂ x f → Becomes w w₂ (withDesk (withLine s l) x (f d)) k
-line-and-desk {w} {w₁} {w₂} s l x {d} {k} f was first next =
-    let whole : withDesk (sectionIn w₁) x (f (deskOf (sectionIn w₁) x)) ≡ withDesk (withLine s l) x (f d) =
-    ap (λ (t : Section). withDesk t x (f (deskOf t x))) (first .section) ∙ ap (λ (e : Desk). withDesk (withLine s l) x (f e)) (line-desk s l x ∙ sym was) in
-    then first (becomes whole (first .start) next) (λ less. omega (arith, line-length s l x (f d)))
+pub vehicles-and-desk : {w w₁ w₂ : List ℕ} (s : Section) (l : List Vehicle) (x : Station) {d : Desk} {k : ℕ} (f : Desk → Desk) → d ≡ deskOf s x
+    → Becomes w w₁ (withVehicles s l) k → DeskBecomes w₁ w₂ x f → Becomes w w₂ (withDesk (withVehicles s l) x (f d)) k
+vehicles-and-desk {w} {w₁} {w₂} s l x {d} {k} f was first next =
+    let whole : withDesk (sectionIn w₁) x (f (deskOf (sectionIn w₁) x)) ≡ withDesk (withVehicles s l) x (f d) =
+    ap (λ (t : Section). withDesk t x (f (deskOf t x))) (first .section) ∙ ap (λ (e : Desk). withDesk (withVehicles s l) x (f e)) (vehicles-desk s l x ∙ sym was) in
+    then first (becomes whole (first .start) next) (λ less. omega (arith, vehicles-length s l x (f d)))
 
 -- ---- a station's act
 
 module _ (w w₁ : List ℕ) (x : Station) (time : ℕ) (act : Act) {given : Answer} where
-  enters-by : (p : Plan) → planOf act x (sectionIn w .force) (deskOf (sectionIn w) x) time (nearestAt x (lineOf (sectionIn w))) ≡ p → Does w x p given w₁ → Enters w (At x time act) given w₁
+  enters-by : (p : Plan) → planOf act x (sectionIn w .force) (deskOf (sectionIn w) x) time (nearestAt x (vehiclesOf (sectionIn w))) ≡ p → Does w x p given w₁ → Enters w (At x time act) given w₁
   unfolding entered
   enters-by p is does = record { answer = rw is (does .answer); words = rw is (does .words) }
 
   -- refused by the first of its tests that holds
-  pub act-refused : {why : Refusal} → firstOf (testsOf act x (sectionIn w .force) (deskOf (sectionIn w) x) time (nearestAt x (lineOf (sectionIn w)))) ≡ Refused why
+  pub act-refused : {why : Refusal} → firstOf (testsOf act x (sectionIn w .force) (deskOf (sectionIn w) x) time (nearestAt x (vehiclesOf (sectionIn w)))) ≡ Refused why
       → Refuses w why given w₁ → Enters w (At x time act) given w₁
   act-refused {why} is refuses = enters-by (Refuse why) (rw is) (record { answer = refuses .answer; words = refuses .words })
 
   -- or carried out
-  pub act-allowed : firstOf (testsOf act x (sectionIn w .force) (deskOf (sectionIn w) x) time (nearestAt x (lineOf (sectionIn w)))) ≡ Allowed
-      → Does w x (effectOf act x (deskOf (sectionIn w) x) time (nearestAt x (lineOf (sectionIn w)))) given w₁ → Enters w (At x time act) given w₁
-  act-allowed is does = enters-by (effectOf act x (deskOf (sectionIn w) x) time (nearestAt x (lineOf (sectionIn w)))) (rw is) does
+  pub act-allowed : firstOf (testsOf act x (sectionIn w .force) (deskOf (sectionIn w) x) time (nearestAt x (vehiclesOf (sectionIn w)))) ≡ Allowed
+      → Does w x (effectOf act x (deskOf (sectionIn w) x) time (nearestAt x (vehiclesOf (sectionIn w)))) given w₁ → Enters w (At x time act) given w₁
+  act-allowed is does = enters-by (effectOf act x (deskOf (sectionIn w) x) time (nearestAt x (vehiclesOf (sectionIn w)))) (rw is) does
 
 -- the same where the code has the station and its desk by other names
 pub act-done : (w : List ℕ) {w₁ : List ℕ} (x : Station) (time : ℕ) (act : Act) {given : Answer} {y : Station} {d : Desk} → y ≡ x → d ≡ deskOf (sectionIn w) y
-    → firstOf (testsOf act x (sectionIn w .force) (deskOf (sectionIn w) x) time (nearestAt x (lineOf (sectionIn w)))) ≡ Allowed
-    → Does w y (effectOf act y d time (nearestAt y (lineOf (sectionIn w)))) given w₁ → Enters w (At x time act) given w₁
+    → firstOf (testsOf act x (sectionIn w .force) (deskOf (sectionIn w) x) time (nearestAt x (vehiclesOf (sectionIn w)))) ≡ Allowed
+    → Does w y (effectOf act y d time (nearestAt y (vehiclesOf (sectionIn w)))) given w₁ → Enters w (At x time act) given w₁
 act-done w {w₁} x time act {given} {y} at desk allowed does =
-    let near : Station → Vehicle = λ z. nearestAt z (lineOf (sectionIn w)) in
+    let near : Station → Vehicle = λ z. nearestAt z (vehiclesOf (sectionIn w)) in
     act-allowed w w₁ x time act allowed
     (subst (λ (z : Station). Does w z (effectOf act z (deskOf (sectionIn w) z) time (near z)) given w₁) at
     (subst (λ (e : Desk). Does w y (effectOf act y e time (near y)) given w₁) desk does))
@@ -119,12 +119,12 @@ departure-tested s x time tests {d = d} at desk force own whole =
 
 -- the same of a receipt, of the vehicle v
 pub receipt-tested : (s : Section) (x : Station) (time : ℕ) (sender : Station) (form : ℕ) {y z : Station} {d : Desk} {v : Vehicle} {f : Bool} {own r : Verdict}
-    → y ≡ x → z ≡ sender → d ≡ deskOf s y → v ≡ nearestAt y (lineOf s) → f ≡ s .force → own ≡ firstOf (receiveTests y z form v)
+    → y ≡ x → z ≡ sender → d ≡ deskOf s y → v ≡ nearestAt y (vehiclesOf s) → f ≡ s .force → own ≡ firstOf (receiveTests y z form v)
     → ((ts : List Test) → own ≡ firstOf ts → r ≡ firstOf (stationTests f d time ++ ts))
-    → r ≡ firstOf (stationTests (s .force) (deskOf s x) time ++ receiveTests x sender form (nearestAt x (lineOf s)))
+    → r ≡ firstOf (stationTests (s .force) (deskOf s x) time ++ receiveTests x sender form (nearestAt x (vehiclesOf s)))
 receipt-tested s x time sender form {y} {z} {d} {v} {f} at from desk near force own whole = whole (receiveTests y z form v) own ∙ by
   where
-    by : firstOf (stationTests f d time ++ receiveTests y z form v) ≡ firstOf (stationTests (s .force) (deskOf s x) time ++ receiveTests x sender form (nearestAt x (lineOf s)))
+    by : firstOf (stationTests f d time ++ receiveTests y z form v) ≡ firstOf (stationTests (s .force) (deskOf s x) time ++ receiveTests x sender form (nearestAt x (vehiclesOf s)))
     by = rw (force, desk, near, at, from)
 
 -- a vehicle that no test refuses may enter
@@ -186,16 +186,16 @@ meetVerdict force may = firstOf ((not force, NotInForce) ∷ (not may, MayNotMee
 
 module _ (w : List ℕ) (x sender : Station) (form : ℕ) where
   abbrev place : ℕ
-  place = findOf sender form (lineOf (sectionIn w))
+  place = findOf sender form (vehiclesOf (sectionIn w))
 
-  meet-by : {w₁ : List ℕ} {given : Answer} (v : Verdict) → meetVerdict (sectionIn w .force) (mayMeet (lineOf (sectionIn w)) place) ≡ v
-      → given ≡ settled (sectionIn w) v (withLine (sectionIn w) (metAt x place (lineOf (sectionIn w)))) .answer
-      → Becomes w w₁ (settled (sectionIn w) v (withLine (sectionIn w) (metAt x place (lineOf (sectionIn w)))) .section) (startIn w)
+  meet-by : {w₁ : List ℕ} {given : Answer} (v : Verdict) → meetVerdict (sectionIn w .force) (mayMeet (vehiclesOf (sectionIn w)) place) ≡ v
+      → given ≡ settled (sectionIn w) v (withVehicles (sectionIn w) (metAt x place (vehiclesOf (sectionIn w)))) .answer
+      → Becomes w w₁ (settled (sectionIn w) v (withVehicles (sectionIn w) (metAt x place (vehiclesOf (sectionIn w)))) .section) (startIn w)
       → Enters w (Meet x sender form) given w₁
   unfolding entered
   meet-by {w₁} v is answer words =
       let s = sectionIn w in
-      let t = withLine s (metAt x place (lineOf s)) in
+      let t = withVehicles s (metAt x place (vehiclesOf s)) in
       record {
         answer = answer ∙ ap (λ (u : Verdict). settled s u t .answer) (sym is);
         words = subst (λ (u : Verdict). Becomes w w₁ (settled s u t .section) (startIn w)) (sym is) words;
@@ -203,7 +203,7 @@ module _ (w : List ℕ) (x sender : Station) (form : ℕ) where
 
   pub meet-out-of-force : {w₁ : List ℕ} {given : Answer} → sectionIn w .force ≡ false → Refuses w NotInForce given w₁ → Enters w (Meet x sender form) given w₁
   meet-out-of-force off refuses =
-      meet-by (Refused NotInForce) (ap (λ (b : Bool). meetVerdict b (mayMeet (lineOf (sectionIn w)) place)) off) (refuses .answer) (refuses .words)
+      meet-by (Refused NotInForce) (ap (λ (b : Bool). meetVerdict b (mayMeet (vehiclesOf (sectionIn w)) place)) off) (refuses .answer) (refuses .words)
 
   pub meet-refused : {w₁ w₂ : List ℕ} {given : Answer} → sectionIn w .force ≡ true → Met w w₁ x sender form false → Refuses w₁ MayNotMeet given w₂ → Enters w (Meet x sender form) given w₂
   meet-refused {w₁} {w₂} on met refuses =

@@ -1,11 +1,11 @@
 -- A well-made section is its own line padded: the places past the vehicles present are blank, and a blank place is the unused one.
 -- Assumes nothing.
 use Prim.Native.Nat.{suc, zero, ℕ}
-use Rattle.words.specs.Words.{lineIn, sectionIn}
+use Rattle.words.specs.Words.{vehiclesIn, sectionIn}
 use Rattle.working.proofs.Clauses.{section-made}
-use Rattle.working.proofs.Made.{length-line, length-padTo}
+use Rattle.working.proofs.Made.{length-vehicles, length-padTo}
 use Rattle.working.proofs.Tests.{both, each-holds}
-use Rattle.working.specs.Sections.{lineOf, padTo, unused, withLine}
+use Rattle.working.specs.Sections.{vehiclesOf, padTo, unused, withVehicles}
 use Rattle.working.specs.WellMade.{all, isBlank, isBlankMovement, wellMade}
 use Rattle.working.specs.declared.Movement.the-variants.{Open, Return, Through, Train}
 use Rattle.working.specs.declared.Movement.{Movement}
@@ -47,10 +47,10 @@ padded (suc n) zero (v ∷ l) long blank =
     ap₂ (λ (x : Vehicle) (rest : List Vehicle). x ∷ rest) (sym (blank-is v (p .0))) (padded n zero l (omega arith) (p .1))
 padded (suc n) (suc k) (v ∷ l) long blank = ap (λ (rest : List Vehicle). v ∷ rest) (padded n k l (omega arith) blank)
 
-pub own-line : (s : Section) → length (s .vehicles) ≡ 24 → wellMade s ≡ true → withLine s (lineOf s) ≡ s
-own-line s long well = rw (padded 24 (s .len) (s .vehicles) long (section-made s well .blank), length-line s long well)
+pub own-vehicles : (s : Section) → length (s .vehicles) ≡ 24 → wellMade s ≡ true → withVehicles s (vehiclesOf s) ≡ s
+own-vehicles s long well = rw (padded 24 (s .len) (s .vehicles) long (section-made s well .blank), length-vehicles s long well)
 
 -- the section in any words has its 24 places
 pub long-in : (w : List ℕ) → length (sectionIn w .vehicles) ≡ 24
 unfolding sectionIn
-long-in w = length-padTo 24 (lineIn w)
+long-in w = length-padTo 24 (vehiclesIn w)

@@ -5,7 +5,7 @@ use Rattle.working.specs.Effects.{Arrive, Depart, Plan, Refuse, nextForm, vehic
 use Rattle.working.specs.Events.{At, Bad, Begin, Decoded, Event, Meet, Resume, Says}
 use Rattle.working.specs.Reasons.{beginTests, resumeTests}
 use Rattle.working.specs.Refusals.{firstOf}
-use Rattle.working.specs.Sections.{countRefusal, deskOf, insertAt, lineOf, nearestAt, withDesk, withLine}
+use Rattle.working.specs.Sections.{countRefusal, deskOf, insertAt, vehiclesOf, nearestAt, withDesk, withVehicles}
 use Rattle.working.specs.Steps.{doneBy, entered, onDecoded, planOf}
 use Rattle.working.specs.declared.Answer.the-variants as answer
 use Rattle.working.specs.declared.Answer.{Answer}
@@ -34,7 +34,7 @@ startIfAnew Allowed start = 0
 
 abbrev pub startAfter : Section → Event → ℕ → ℕ
 startAfter s Begin start = startIfAnew (firstOf (beginTests (s .force))) start
-startAfter s (At x time act) start = startBy x (planOf act x (s .force) (deskOf s x) time (nearestAt x (lineOf s))) start
+startAfter s (At x time act) start = startBy x (planOf act x (s .force) (deskOf s x) time (nearestAt x (vehiclesOf s))) start
 startAfter s (Meet x sender form) start = start
 startAfter s Resume start = startIfAnew (firstOf (resumeTests (s .force) (s .len))) start
 
@@ -65,6 +65,6 @@ pub record Answers (before : List ℕ) (decoded : Decoded) (given : Answer) (aft
 abbrev pub Leaves : List ℕ → Station → ℕ → Desk → Movement → ℕ → List ℕ → Type 0
 Leaves before x time d movement class after =
     Becomes before after
-    (withDesk (withLine (sectionIn before) (insertAt x (vehicleFor x (nextForm d) movement class) (lineOf (sectionIn before)))) x
+    (withDesk (withVehicles (sectionIn before) (insertAt x (vehicleFor x (nextForm d) movement class) (vehiclesOf (sectionIn before)))) x
     (withDeparture time (nextForm d) (d .sent + 1) d))
     (startOn x (startIn before) 31)

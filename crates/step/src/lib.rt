@@ -21,7 +21,7 @@ pub use lines::Listing;
 pub use lines::Put;
 pub use lines::begin;
 pub use lines::start_of;
-pub use memory::step_in;
+pub use memory::step_in_place;
 pub use running::Last;
 pub use running::LogEnd;
 pub use running::Ran;

@@ -6,7 +6,7 @@ use working::Answer;
 use working::Section;
 
 // The step on the section lent: its answer is returned, and the section after it is left where it was.
-pub fn step_in(s: &mut Section, bytes: &[u8]) -> Answer
+pub fn step_in_place(s: &mut Section, bytes: &[u8]) -> Answer
     ensures { λ r. ⌜ StepLeaves (now (s .entry)) (now (bytes .entry)) r (now (s .exit)) ⌝ }
 {
     let after = step(*s, bytes);

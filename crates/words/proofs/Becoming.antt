@@ -1,9 +1,9 @@
 -- One change of the words after another: what the second makes of the words that the first left, it makes of them before the first.
 -- Assumes nothing.
 use Prim.Native.Nat.{_≤_, ℕ}
-use Rattle.words.specs.Words.{Becomes, DeskBecomes, LineBecomes, OwnWords, sectionIn, startIn, wordsOf}
-use Rattle.working.proofs.Made.{line-with}
-use Rattle.working.specs.Sections.{deskOf, lineOf, withDesk, withLine}
+use Rattle.words.specs.Words.{Becomes, DeskBecomes, VehiclesBecome, OwnWords, sectionIn, startIn, wordsOf}
+use Rattle.working.proofs.Made.{vehicles-with}
+use Rattle.working.specs.Sections.{deskOf, vehiclesOf, withDesk, withVehicles}
 use Rattle.working.specs.declared.Desk.{Desk}
 use Rattle.working.specs.declared.Section.{Section}
 use Rattle.working.specs.declared.Station.the-variants.{A, B}
@@ -39,13 +39,13 @@ desk-then {w} {u} {after} x f g one two =
     becomes-as (becomes-then one two (λ few. omega arith)) (ap (λ z. withDesk z x (g (deskOf z x))) (one .section) ∙ desk-twice s x (f (deskOf s x)) g) (one .start)
 
 -- the line twice, as long as it fits
-pub line-then : {w u after : List ℕ} (f g : List Vehicle → List Vehicle) (i j : ℕ → ℕ) → length (f (lineOf (sectionIn w))) ≤ 24
-    → LineBecomes w u f i → LineBecomes u after g j → LineBecomes w after (λ l. g (f l)) (λ start. j (i start))
-line-then {w} {u} {after} f g i j fits one two =
+pub vehicles-then : {w u after : List ℕ} (f g : List Vehicle → List Vehicle) (i j : ℕ → ℕ) → length (f (vehiclesOf (sectionIn w))) ≤ 24
+    → VehiclesBecome w u f i → VehiclesBecome u after g j → VehiclesBecome w after (λ l. g (f l)) (λ start. j (i start))
+vehicles-then {w} {u} {after} f g i j fits one two =
     let s = sectionIn w in
-    let l = f (lineOf s) in
+    let l = f (vehiclesOf s) in
     becomes-as (becomes-then one two (λ few. fits))
-    (ap (λ z. withLine z (g (lineOf z))) (one .section) ∙ ap (λ t. withLine s (g t)) (line-with 24 l fits)) (ap j (one .start))
+    (ap (λ z. withVehicles z (g (vehiclesOf z))) (one .section) ∙ ap (λ t. withVehicles s (g t)) (vehicles-with 24 l fits)) (ap j (one .start))
 
 -- and to words that are a section's own
 pub own-then : {w after : List ℕ} {s t : Section} → OwnWords w s → Becomes w after t (startIn w) → t .len ≤ 24 → OwnWords after t

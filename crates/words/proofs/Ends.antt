@@ -1,19 +1,19 @@
 -- A vehicle enters or leaves at a station's end, or has met another: the words stored are those of the line after it.
 -- Assumes nothing.
 use Prim.Native.Nat.{_%_, _*_, _+_, _-_, _<_, _≤_, ℕ}
-use Rattle.words.proofs.Becoming.{becomes-as, line-then}
-use Rattle.words.proofs.Lines.{Stored, line-at, line-becomes, line-fits, line-of, pad-any, present-length, slot-at}
+use Rattle.words.proofs.Becoming.{becomes-as, vehicles-then}
+use Rattle.words.proofs.VehiclesIn.{Stored, vehicles-at, vehicles-become, vehicles-fit, vehicles-of, pad-any, present-length, slot-at}
 use Rattle.words.proofs.Packing.{vehicle-back}
-use Rattle.words.proofs.Ring.{Moves, enters-moves, leaves-moves, remove-length, meets-moves}
+use Rattle.words.proofs.Round.{Moves, enters-moves, leaves-moves, remove-length, meets-moves}
 use Rattle.words.proofs.Slots.{slot-second}
 use Rattle.words.specs.Stores.{StartMoved, VehiclePut, endSlot, inSlot, startWord}
-use Rattle.words.specs.Words.{Becomes, LineBecomes, Own, lineIn, oneBack, sectionIn, startIn, startOn, wordCount, wordsOf}
+use Rattle.words.specs.Words.{Becomes, VehiclesBecome, Own, vehiclesIn, oneBack, sectionIn, startIn, startOn, wordCount, wordsOf}
 use Rattle.words.specs.Words.{bySlot, firstWord, movementIn, ringFrom, ringIn, secondWord, slots, vehicleAt}
-use Rattle.working.proofs.Line.{insert-length}
-use Rattle.working.proofs.Made.{line-with}
-use Rattle.working.proofs.Meeting.{turn-length}
-use Rattle.working.specs.Sections.{insertAt, lineOf, numberAt, padTo, removeAt, unused, withLine}
-use Rattle.working.specs.Steps.{metAt, turnAt, turned}
+use Rattle.working.proofs.Vehicles.{insert-length}
+use Rattle.working.proofs.Made.{vehicles-with}
+use Rattle.working.proofs.Meeting.{redirect-length}
+use Rattle.working.specs.Sections.{insertAt, vehiclesOf, numberAt, padTo, removeAt, unused, withVehicles}
+use Rattle.working.specs.Steps.{metAt, redirectAt, redirected}
 use Rattle.working.specs.declared.Station.the-variants.{A, B}
 use Rattle.working.specs.declared.Station.{Station}
 use Rattle.working.specs.declared.Vehicle.{Vehicle}
@@ -65,32 +65,32 @@ end-stored x m w {n} {slot} {there} {moved} {after} {v} start put = record {
 -- ---- the acts
 
 -- the line of the section is that in the words
-as-line : (w : List ℕ) {after : List ℕ} (f : List Vehicle → List Vehicle) (start : ℕ → ℕ)
-    → Becomes w after (withLine (sectionIn w) (f (lineIn w))) (start (startIn w)) → LineBecomes w after f start
-as-line w f start b = becomes-as b (ap (λ l. withLine (sectionIn w) (f l)) (sym (line-of w))) refl
+as-vehicles : (w : List ℕ) {after : List ℕ} (f : List Vehicle → List Vehicle) (start : ℕ → ℕ)
+    → Becomes w after (withVehicles (sectionIn w) (f (vehiclesIn w))) (start (startIn w)) → VehiclesBecome w after f start
+as-vehicles w f start b = becomes-as b (ap (λ l. withVehicles (sectionIn w) (f l)) (sym (vehicles-of w))) refl
 
-pub insert-becomes : (x : Station) (v : Vehicle) (w : List ℕ) {n slot : ℕ} {moved after : List ℕ} → n ≡ length (lineOf (sectionIn w))
+pub insert-becomes : (x : Station) (v : Vehicle) (w : List ℕ) {n slot : ℕ} {moved after : List ℕ} → n ≡ length (vehiclesOf (sectionIn w))
     → StartMoved (set w 0 (n + 1)) moved x oneBack slot (endSlot x (startOn x (startIn (set w 0 (n + 1))) oneBack) n) → VehiclePut moved after slot v
-    → LineBecomes w after (insertAt x v) (λ start. startOn x start oneBack)
+    → VehiclesBecome w after (insertAt x v) (λ start. startOn x start oneBack)
 insert-becomes x v w {n} {slot} size start put =
-    let l = lineIn w in
+    let l = vehiclesIn w in
     let here : endSlot x (startOn x (startIn w) oneBack) (length l) ≡ slot =
-    sym (start .at ∙ ap₂ (λ k i. endSlot x (startOn x k oneBack) i) (start-kept w (n + 1)) (size ∙ ap length (line-of w))) in
-    let moves = subst (λ i. Moves (startIn w) l i v (startOn x (startIn w) oneBack) (insertAt x v l)) here (enters-moves (startIn w) l (omega arith) (line-fits w) x v) in
-    let count : n + 1 ≡ length (insertAt x v l) = omega (arith, insert-length x v l, ap length (line-of w)) in
-    as-line w (insertAt x v) (λ k. startOn x k oneBack)
-    (line-becomes slot v (startOn x (startIn w) oneBack) (insertAt x v l) (start .inside) (start-less x w oneBack) w (end-stored x oneBack w start put) count moves)
+    sym (start .at ∙ ap₂ (λ k i. endSlot x (startOn x k oneBack) i) (start-kept w (n + 1)) (size ∙ ap length (vehicles-of w))) in
+    let moves = subst (λ i. Moves (startIn w) l i v (startOn x (startIn w) oneBack) (insertAt x v l)) here (enters-moves (startIn w) l (omega arith) (vehicles-fit w) x v) in
+    let count : n + 1 ≡ length (insertAt x v l) = omega (arith, insert-length x v l, ap length (vehicles-of w)) in
+    as-vehicles w (insertAt x v) (λ k. startOn x k oneBack)
+    (vehicles-become slot v (startOn x (startIn w) oneBack) (insertAt x v l) (start .inside) (start-less x w oneBack) w (end-stored x oneBack w start put) count moves)
 
-pub remove-becomes : (x : Station) (w : List ℕ) {n slot : ℕ} {moved after : List ℕ} → n ≡ length (lineOf (sectionIn w)) - 1
+pub remove-becomes : (x : Station) (w : List ℕ) {n slot : ℕ} {moved after : List ℕ} → n ≡ length (vehiclesOf (sectionIn w)) - 1
     → StartMoved (set w 0 n) moved x 1 slot (endSlot x (startIn (set w 0 n)) n) → VehiclePut moved after slot unused
-    → LineBecomes w after (removeAt x) (λ start. startOn x start 1)
+    → VehiclesBecome w after (removeAt x) (λ start. startOn x start 1)
 remove-becomes x w {n} {slot} size start put =
-    let l = lineIn w in
-    let count : n ≡ length l - 1 = omega (arith, ap length (line-of w)) in
+    let l = vehiclesIn w in
+    let count : n ≡ length l - 1 = omega (arith, ap length (vehicles-of w)) in
     let here : endSlot x (startIn w) (length l - 1) ≡ slot = sym (start .at ∙ ap₂ (endSlot x) (start-kept w n) count) in
-    let moves = subst (λ i. Moves (startIn w) l i unused (startOn x (startIn w) 1) (removeAt x l)) here (leaves-moves (startIn w) l (omega arith) (line-fits w) x) in
-    as-line w (removeAt x) (λ k. startOn x k 1)
-    (line-becomes slot unused (startOn x (startIn w) 1) (removeAt x l) (start .inside) (start-less x w 1) w (end-stored x 1 w start put) (omega (arith, remove-length x l)) moves)
+    let moves = subst (λ i. Moves (startIn w) l i unused (startOn x (startIn w) 1) (removeAt x l)) here (leaves-moves (startIn w) l (omega arith) (vehicles-fit w) x) in
+    as-vehicles w (removeAt x) (λ k. startOn x k 1)
+    (vehicles-become slot unused (startOn x (startIn w) 1) (removeAt x l) (start .inside) (start-less x w 1) w (end-stored x 1 w start put) (omega (arith, remove-length x l)) moves)
 
 -- ---- one has met another: its first word alone is stored
 
@@ -98,7 +98,7 @@ number-most : (x : Station) → numberAt x ≤ 2
 number-most A = omega arith
 number-most B = omega arith
 
-module _ (x : Station) (i : ℕ) (w : List ℕ) {n slot : ℕ} (size : n ≡ length (lineOf (sectionIn w))) (here : i < length (lineOf (sectionIn w))) (at : slot ≡ (startIn w + i) % slots) where
+module _ (x : Station) (i : ℕ) (w : List ℕ) {n slot : ℕ} (size : n ≡ length (vehiclesOf (sectionIn w))) (here : i < length (vehiclesOf (sectionIn w))) (at : slot ≡ (startIn w + i) % slots) where
   -- the words of the start and of what the vehicle left on are as they were
   first-stored : (first : ℕ) → set (set w 0 n) (ringFrom + 2 * slot) first ≡ inSlot (set (set w 0 n) 3 (getD w 3 0)) slot first (getD w (ringFrom + (2 * slot + 1)) 0)
   first-stored first =
@@ -112,23 +112,23 @@ module _ (x : Station) (i : ℕ) (w : List ℕ) {n slot : ℕ} (size : n ≡ len
   second-word : getD w (ringFrom + (2 * slot + 1)) 0 ≡ getD (ringIn w) (2 * slot + 1) 0
   second-word = sym (getD-drop ringFrom w (2 * slot + 1) 0)
 
-  in-line : getD (lineIn w) i unused ≡ vehicleAt (ringIn w) slot
-  in-line = line-at w i (omega (arith, present-length w)) ∙ ap (vehicleAt (ringIn w)) (sym at)
+  in-vehicles : getD (vehiclesIn w) i unused ≡ vehicleAt (ringIn w) slot
+  in-vehicles = vehicles-at w i (omega (arith, present-length w)) ∙ ap (vehicleAt (ringIn w)) (sym at)
 
   -- in a section's own words it is the vehicle's own
   left-word : Own w → getD (ringIn w) (2 * slot + 1) 0 ≡ secondWord (vehicleAt (ringIn w) slot)
   unfolding wordsOf sectionIn
   left-word e =
       let place : (slots - startIn w + slot) % slots ≡ i = omega (arith, present-length w) in
-      ap (λ u. getD (ringIn u) (2 * slot + 1) 0) e ∙ slot-second (bySlot (padTo 24 (lineIn w)) (startIn w)) slot
+      ap (λ u. getD (ringIn u) (2 * slot + 1) 0) e ∙ slot-second (bySlot (padTo 24 (vehiclesIn w)) (startIn w)) slot
       ∙ ap secondWord
-      (slot-at (padTo 24 (lineIn w)) (startIn w) slot (omega arith) ∙ pad-any 24 (lineIn w) _ (line-fits w) ∙ ap (λ k. getD (lineIn w) k unused) place ∙ in-line)
+      (slot-at (padTo 24 (vehiclesIn w)) (startIn w) slot (omega arith) ∙ pad-any 24 (vehiclesIn w) _ (vehicles-fit w) ∙ ap (λ k. getD (vehiclesIn w) k unused) place ∙ in-vehicles)
 
-  module _ (long : length w ≡ wordCount) {after : List ℕ} (store : after ≡ set (set w 0 n) (ringFrom + 2 * slot) (firstWord (turned x (vehicleAt (ringIn w) slot)))) where
-    met-stored : Stored w after slot (turned x (vehicleAt (ringIn w) slot)) n (startIn w)
+  module _ (long : length w ≡ wordCount) {after : List ℕ} (store : after ≡ set (set w 0 n) (ringFrom + 2 * slot) (firstWord (redirected x (vehicleAt (ringIn w) slot)))) where
+    met-stored : Stored w after slot (redirected x (vehicleAt (ringIn w) slot)) n (startIn w)
     unfolding wordsOf
     met-stored =
-        let v = turned x (vehicleAt (ringIn w) slot) in
+        let v = redirected x (vehicleAt (ringIn w) slot) in
         let heads : numberAt x < 256 = omega (arith, number-most x) in
         record {
           first = firstWord v;
@@ -143,28 +143,28 @@ module _ (x : Station) (i : ℕ) (w : List ℕ) {n slot : ℕ} (size : n ≡ len
           own-word = λ e. ap (λ u. getD u 3 0) e;
         }
 
-    pub met-becomes : LineBecomes w after (turnAt x i) (λ start. start)
+    pub met-becomes : VehiclesBecome w after (redirectAt x i) (λ start. start)
     met-becomes =
-        let l = lineIn w in
-        let v = turned x (vehicleAt (ringIn w) slot) in
-        let count : n ≡ length (turnAt x i l) = omega (arith, turn-length x i l, ap length (line-of w)) in
-        let moves : Moves (startIn w) l slot v (startIn w) (turnAt x i l) =
-        subst (λ u. Moves (startIn w) l slot (turned x u) (startIn w) (turnAt x i l)) in-line
-        (rw at (meets-moves (startIn w) l (omega arith) (line-fits w) x i (omega (arith, ap length (line-of w))))) in
-        as-line w (turnAt x i) (λ k. k) (line-becomes slot v (startIn w) (turnAt x i l) (omega arith) (omega arith) w met-stored count moves)
+        let l = vehiclesIn w in
+        let v = redirected x (vehicleAt (ringIn w) slot) in
+        let count : n ≡ length (redirectAt x i l) = omega (arith, redirect-length x i l, ap length (vehicles-of w)) in
+        let moves : Moves (startIn w) l slot v (startIn w) (redirectAt x i l) =
+        subst (λ u. Moves (startIn w) l slot (redirected x u) (startIn w) (redirectAt x i l)) in-vehicles
+        (rw at (meets-moves (startIn w) l (omega arith) (vehicles-fit w) x i (omega (arith, ap length (vehicles-of w))))) in
+        as-vehicles w (redirectAt x i) (λ k. k) (vehicles-become slot v (startIn w) (redirectAt x i l) (omega arith) (omega arith) w met-stored count moves)
 
 -- ---- and then the other: the line is as long as before
 
-module _ (x : Station) (i : ℕ) {w u : List ℕ} (one : LineBecomes w u (turnAt x i) (λ start. start)) where
-  met-fits : length (turnAt x i (lineOf (sectionIn w))) ≤ 24
-  met-fits = omega (arith, turn-length x i (lineOf (sectionIn w)), present-length w)
+module _ (x : Station) (i : ℕ) {w u : List ℕ} (one : VehiclesBecome w u (redirectAt x i) (λ start. start)) where
+  met-fits : length (redirectAt x i (vehiclesOf (sectionIn w))) ≤ 24
+  met-fits = omega (arith, redirect-length x i (vehiclesOf (sectionIn w)), present-length w)
 
-  pub met-length : length (lineOf (sectionIn u)) ≡ length (lineOf (sectionIn w))
+  pub met-length : length (vehiclesOf (sectionIn u)) ≡ length (vehiclesOf (sectionIn w))
   met-length =
-      let l = turnAt x i (lineOf (sectionIn w)) in
-      ap (λ s. length (lineOf s)) (one .section) ∙ ap length (line-with 24 l met-fits) ∙ turn-length x i (lineOf (sectionIn w))
+      let l = redirectAt x i (vehiclesOf (sectionIn w)) in
+      ap (λ s. length (vehiclesOf s)) (one .section) ∙ ap length (vehicles-with 24 l met-fits) ∙ redirect-length x i (vehiclesOf (sectionIn w))
 
-  pub both-met : {after : List ℕ} → LineBecomes u after (turnAt x (i + 1)) (λ start. start) → LineBecomes w after (metAt x i) (λ start. start)
+  pub both-met : {after : List ℕ} → VehiclesBecome u after (redirectAt x (i + 1)) (λ start. start) → VehiclesBecome w after (metAt x i) (λ start. start)
   both-met two =
-      becomes-as (line-then (turnAt x i) (turnAt x (i + 1)) (λ k. k) (λ k. k) met-fits one two)
-      (ap (λ k. withLine (sectionIn w) (turnAt x k (turnAt x i (lineOf (sectionIn w))))) (add-one i)) refl
+      becomes-as (vehicles-then (redirectAt x i) (redirectAt x (i + 1)) (λ k. k) (λ k. k) met-fits one two)
+      (ap (λ k. withVehicles (sectionIn w) (redirectAt x k (redirectAt x i (vehiclesOf (sectionIn w))))) (add-one i)) refl

@@ -4,9 +4,9 @@
 use Prim.Native.Nat.{_+_, _<_, _≤_, suc, zero, ℕ}
 use Rattle.words.proofs.Becoming.{becomes-as, desk-length, own-then}
 use Rattle.words.proofs.Packing.{one-back}
-use Rattle.words.specs.Words.{DeskBecomes, LineBecomes, OwnWords, bySlot, oneBack, sectionIn, slotWords, startOn, wordCount, wordsOf}
-use Rattle.working.proofs.Made.{line-with}
-use Rattle.working.specs.Sections.{emptied, insertAt, lineOf, padTo, unused, withDesk, withLine}
+use Rattle.words.specs.Words.{DeskBecomes, VehiclesBecome, OwnWords, bySlot, oneBack, sectionIn, slotWords, startOn, wordCount, wordsOf}
+use Rattle.working.proofs.Made.{vehicles-with}
+use Rattle.working.specs.Sections.{emptied, insertAt, vehiclesOf, padTo, unused, withDesk, withVehicles}
 use Rattle.working.specs.WellMade.{oneIf}
 use Rattle.working.specs.declared.Desk.{Desk}
 use Rattle.working.specs.declared.Section.{Section}
@@ -27,16 +27,16 @@ unfolding sectionIn wordsOf slotWords bySlot padTo
 own-emptied force count fits = record { section = rw (one-back force, mod-eq-of-lt fits); start = refl; words = refl; fits = omega arith }
 
 -- one more vehicle of a line
-pub own-next : {w after : List ℕ} (s : Section) (places : List Vehicle) (i : ℕ) → OwnWords w (withLine s (take i places)) → i < 24 → length places ≡ 24
-    → LineBecomes w after (insertAt B (getD places i unused)) (λ start. startOn B start oneBack) → OwnWords after (withLine s (take (i + 1) places))
+pub own-next : {w after : List ℕ} (s : Section) (places : List Vehicle) (i : ℕ) → OwnWords w (withVehicles s (take i places)) → i < 24 → length places ≡ 24
+    → VehiclesBecome w after (insertAt B (getD places i unused)) (λ start. startOn B start oneBack) → OwnWords after (withVehicles s (take (i + 1) places))
 own-next {w} {after} s places i own less long b =
     let l = take i places in
     let v = getD places i unused in
     let size : length l ≡ i = length-take-le i places (omega arith) in
     let fits : length l ≤ 24 = omega arith in
-    let entered : OwnWords after (withLine s (insertAt B v l)) =
+    let entered : OwnWords after (withVehicles s (insertAt B v l)) =
     own-then own
-    (becomes-as b (ap (λ z. withLine z (insertAt B v (lineOf z))) (own .section) ∙ ap (λ t. withLine s (insertAt B v t)) (line-with 24 l fits)) refl)
+    (becomes-as b (ap (λ z. withVehicles z (insertAt B v (vehiclesOf z))) (own .section) ∙ ap (λ t. withVehicles s (insertAt B v t)) (vehicles-with 24 l fits)) refl)
     (omega (arith, length-append l (v ∷ []))) in
     rw (add-one i, take-suc places i unused (omega arith)) entered
 

@@ -1,9 +1,9 @@
 pub mod Becoming
-pub mod Desks
+pub mod DeskWords
 pub mod Ends
 pub mod Keeping
-pub mod Lines
 pub mod Packing
-pub mod Ring
+pub mod Round
 pub mod Slots
+pub mod VehiclesIn
 pub mod Written

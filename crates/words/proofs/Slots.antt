@@ -1,7 +1,7 @@
 -- The ring's words, two to a slot. Two words stored in a slot alter the vehicle of that slot alone, and so in the words of any list of vehicles.
 -- Assumes nothing.
 use Prim.Native.Nat.{_*_, _+_, _<_, suc, zero, ℕ}
-use Rattle.words.proofs.Ring.{Alters}
+use Rattle.words.proofs.Round.{Alters}
 use Rattle.words.specs.Words.{firstWord, secondWord, slotWords, vehicleAt, vehicleIn}
 use Rattle.working.specs.Sections.{unused}
 use Rattle.working.specs.declared.Vehicle.{Vehicle}

@@ -30,7 +30,7 @@ abbrev pub startWord : Station → ℕ → List ℕ → ℕ
 startWord A n w = (startIn w + n) % slots
 startWord B n w = getD w 3 0
 
--- the slot at a station's end of a line from the start on, with so many others in the line
+-- the slot at a station's end, from the start on, with so many others in the ring
 abbrev pub endSlot : Station → ℕ → ℕ → ℕ
 endSlot A start others = start
 endSlot B start others = (start + others) % slots

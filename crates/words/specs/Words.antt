@@ -1,19 +1,19 @@
 -- A section in words, as a run keeps it in lent memory:
 --
 --   word       | holds
---   0          | the length of the line
+--   0          | how many vehicles are present
 --   1          | 1 in force, else 0
 --   2          | entries refused
 --   3          | the ring's start: the slot of the vehicle nearest A
 --   4 to 12    | A's desk: clock, last, sent, interval (0 is none, else one more than the minute), out (1 or 0), guest, asked, holds, owes
 --   13 to 21   | B's desk, in the same order
---   22 to 85   | the ring: 32 slots of two words; place i of the line is slot (start + i) % 32
+--   22 to 85   | the ring: 32 slots of two words; place i is slot (start + i) % 32
 --
 -- A slot's first word, from its low end: form number (two bytes), sender, heading, met (1 or 0), class (a byte each).
 -- Its second word: what the vehicle left on (0 OPEN, 1 THROUGH, 2 RETURN, 3 TRAIN), granted, asked (a byte each). Two zeros are an unused place.
 use Prim.Native.Nat.{_%_, _*_, _+_, _-_, _/_, _^_, _≤_, min, suc, zero, ℕ}
 use Rattle.working.specs.Reasons.{findOf, mayMeet}
-use Rattle.working.specs.Sections.{deskOf, lineOf, padTo, unused, withDesk, withLine}
+use Rattle.working.specs.Sections.{deskOf, vehiclesOf, padTo, unused, withDesk, withVehicles}
 use Rattle.working.specs.Steps.{metAt}
 use Rattle.working.specs.WellMade.{oneIf}
 use Rattle.working.specs.declared.Clears.{Clears}
@@ -118,8 +118,8 @@ startIn w = getD w 3 0 % slots
 abbrev pub presentIn : List ℕ → ℕ
 presentIn w = min (getD w 0 0) 24
 
-abbrev pub lineIn : List ℕ → List Vehicle
-lineIn w = round (vehicleAt (ringIn w)) (startIn w) (presentIn w)
+abbrev pub vehiclesIn : List ℕ → List Vehicle
+vehiclesIn w = round (vehicleAt (ringIn w)) (startIn w) (presentIn w)
 
 -- the places of a section slot by slot, the first of them in the slot at the start; past the places a slot is unused
 unfoldable pub bySlot : List Vehicle → ℕ → List Vehicle
@@ -183,7 +183,7 @@ deskIn w x = deskRead (deskWordsIn w x)
 
 unfoldable pub sectionIn : List ℕ → Section
 sectionIn w = record {
-  vehicles = padTo 24 (lineIn w);
+  vehicles = padTo 24 (vehiclesIn w);
   len = getD w 0 0;
   force = eqb (getD w 1 0) 1;
   refused = getD w 2 0 % 4294967296;
@@ -213,18 +213,18 @@ pub record Becomes (before after : List ℕ) (s : Section) (slot : ℕ) : Type 0
   pub start : startIn after ≡ slot
   pub own : s .len ≤ 24 → Own before → after ≡ wordsOf s slot
 
--- the line alone is altered, and the ring's start with it
-abbrev pub LineBecomes : List ℕ → List ℕ → (List Vehicle → List Vehicle) → (ℕ → ℕ) → Type 0
-LineBecomes before after f start = Becomes before after (withLine (sectionIn before) (f (lineOf (sectionIn before)))) (start (startIn before))
+-- the vehicles alone are altered, and the ring's start with them
+abbrev pub VehiclesBecome : List ℕ → List ℕ → (List Vehicle → List Vehicle) → (ℕ → ℕ) → Type 0
+VehiclesBecome before after f start = Becomes before after (withVehicles (sectionIn before) (f (vehiclesOf (sectionIn before)))) (start (startIn before))
 
 -- MEET, where the pair may meet
 abbrev pub metIf : Bool → Section → Station → ℕ → Section
-metIf true s x i = withLine s (metAt x i (lineOf s))
+metIf true s x i = withVehicles s (metAt x i (vehiclesOf s))
 metIf false s x i = s
 
 pub record Met (before after : List ℕ) (x sender : Station) (form : ℕ) (r : Bool) : Type 0 where
-  pub may : r ≡ mayMeet (lineOf (sectionIn before)) (findOf sender form (lineOf (sectionIn before)))
-  pub words : Becomes before after (metIf r (sectionIn before) x (findOf sender form (lineOf (sectionIn before)))) (startIn before)
+  pub may : r ≡ mayMeet (vehiclesOf (sectionIn before)) (findOf sender form (vehiclesOf (sectionIn before)))
+  pub words : Becomes before after (metIf r (sectionIn before) x (findOf sender form (vehiclesOf (sectionIn before)))) (startIn before)
 
 -- a station's desk alone is altered
 abbrev pub DeskBecomes : List ℕ → List ℕ → Station → (Desk → Desk) → Type 0

@@ -1,19 +1,19 @@
 // A section put into words, and read off them.
 ghost use Rattle.words.specs.Words.{OwnWords, sectionIn};
-ghost use Rattle.working.specs.Sections.{emptied, fresh, lineOf, withLine};
+ghost use Rattle.working.specs.Sections.{emptied, fresh, vehiclesOf, withVehicles};
 ghost use lib.ListN.{take};
 ghost use mathlib.Core.Path.{_≡_};
-use crate::figures::Words;
-use crate::figures::desk;
-use crate::figures::in_force;
-use crate::figures::present;
-use crate::figures::put_desk;
-use crate::figures::refused;
-use crate::line::at_place;
-use crate::line::emptied_words;
-use crate::line::fitting;
-use crate::line::insert;
-use crate::line::present_in;
+use crate::desks::Words;
+use crate::desks::desk;
+use crate::desks::in_force;
+use crate::desks::present;
+use crate::desks::put_desk;
+use crate::desks::refused;
+use crate::ring::at_place;
+use crate::ring::emptied_words;
+use crate::ring::fitting;
+use crate::ring::insert;
+use crate::ring::present_in;
 use working::Section;
 use working::Station;
 use working::Vehicle;
@@ -27,7 +27,7 @@ pub fn fresh_words() -> Words
 
 // The words of a section with the first `len` of its places, and both desks as fresh.
 fn line_words(force: bool, count: u32, places: [Vehicle; Section::PLACES], len: usize) -> Words
-    ensures { λ r. ⌜ OwnWords r (withLine (emptied force count) (take len places)) ⌝ }
+    ensures { λ r. ⌜ OwnWords r (withVehicles (emptied force count) (take len places)) ⌝ }
 {
     let present = fitting(len);
     let mut words = emptied_words(force, count);
@@ -41,7 +41,7 @@ fn line_words(force: bool, count: u32, places: [Vehicle; Section::PLACES], len: 
 
 // The words of a section, of which nothing but the vehicles present is kept.
 pub fn words_of(s: Section) -> Words
-    ensures { λ r. ⌜ OwnWords r (withLine s (lineOf s)) ⌝ }
+    ensures { λ r. ⌜ OwnWords r (withVehicles s (vehiclesOf s)) ⌝ }
 {
     let places = s.vehicles;
     let a = s.a;
@@ -52,7 +52,7 @@ pub fn words_of(s: Section) -> Words
     words
 }
 
-// The places that the words stand for: the line, and unused ones behind it.
+// The places that the words stand for: the vehicles present, and unused ones behind them.
 fn places_in(words: &Words) -> [Vehicle; Section::PLACES]
     ensures { λ r. ⌜ r ≡ sectionIn (now (words .entry)) .vehicles ⌝ }
 {

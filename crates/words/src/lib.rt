@@ -1,27 +1,27 @@
 // A section in lent words, where it can be altered without being copied. specs/Words.antt has the table, and says what section they stand for.
 // Each function is total: whatever the words, what it leaves stands for the section that a definition of `working` gives.
-mod figures;
+mod desks;
 mod kept;
-mod line;
+mod ring;
 mod vehicles;
 
-pub use figures::WORDS;
-pub use figures::Words;
-pub use figures::count_refusal;
-pub use figures::desk;
-pub use figures::in_force;
-pub use figures::present;
-pub use figures::put_clears;
-pub use figures::put_departure;
-pub use figures::put_guest;
-pub use figures::put_out;
-pub use figures::put_receipt;
-pub use figures::refused;
+pub use desks::WORDS;
+pub use desks::Words;
+pub use desks::count_refusal;
+pub use desks::desk;
+pub use desks::in_force;
+pub use desks::present;
+pub use desks::put_clears;
+pub use desks::put_departure;
+pub use desks::put_guest;
+pub use desks::put_out;
+pub use desks::put_receipt;
+pub use desks::refused;
 pub use kept::fresh_words;
 pub use kept::section_in;
 pub use kept::words_of;
-pub use line::empty;
-pub use line::insert;
-pub use line::meet;
-pub use line::nearest;
-pub use line::remove;
+pub use ring::empty;
+pub use ring::insert;
+pub use ring::meet;
+pub use ring::nearest;
+pub use ring::remove;

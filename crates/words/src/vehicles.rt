@@ -1,4 +1,4 @@
-// A vehicle as two words, so that a line of vehicles can be lent and altered where it lies. Two zeros are an unused place. specs/Words.antt has the table.
+// A vehicle as two words, so that vehicles can be lent and altered where they lie. Two zeros are an unused place. specs/Words.antt has the table.
 ghost use Prim.Native.Nat.{_≤_};
 ghost use Rattle.words.specs.Words.{firstWord, leftOn, movementIn, movementWord, packed, vehicleIn};
 ghost use Rattle.working.specs.WellMade.{oneIf};

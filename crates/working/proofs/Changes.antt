@@ -2,9 +2,9 @@
 -- A refusal counts; BEGIN and RESUME empty the section; a departure puts a vehicle in at the station's end; a receipt takes one out there; MEET turns two.
 -- Assumes nothing.
 use Prim.Native.Nat.{_<_, suc, ℕ}
-use Rattle.working.proofs.Line.{Nearest, nearest}
+use Rattle.working.proofs.Vehicles.{Nearest, nearest}
 use Rattle.working.proofs.Made.{Well, length-padTo, made-of, well-arrive, well-insert, well-of}
-use Rattle.working.proofs.Meeting.{turn-left-on, well-turn}
+use Rattle.working.proofs.Meeting.{redirect-left-on, well-redirect}
 use Rattle.working.proofs.Plans.{Departs, Fate, arrives, departs, fate, refuses}
 use Rattle.working.proofs.Ranges.{Ranged, ranged-of}
 use Rattle.working.proofs.Reasons.{meet-passes, meets}
@@ -14,8 +14,8 @@ use Rattle.working.specs.Acts.{Act}
 use Rattle.working.specs.Effects.{Depart, Departing, Plan, arriveDesk}
 use Rattle.working.specs.Events.{At, Bad, Begin, Decoded, Event, Meet, Resume, Says, decode}
 use Rattle.working.specs.Reasons.{beginTests, findOf, isNamed, mayEnter, mayMeet, meetTests, resumeTests}
-use Rattle.working.specs.Sections.{deskOf, emptied, insertAt, lineOf, nearestAt, otherAt, padTo, withDesk, withLine}
-use Rattle.working.specs.Steps.{accepted, doneBy, entered, metAt, onDecoded, planOf, refused, settled, stepOf, turnAt}
+use Rattle.working.specs.Sections.{deskOf, emptied, insertAt, vehiclesOf, nearestAt, otherAt, padTo, withDesk, withVehicles}
+use Rattle.working.specs.Steps.{accepted, doneBy, entered, metAt, onDecoded, planOf, refused, settled, stepOf, redirectAt}
 use Rattle.working.specs.WellMade.{wellMade}
 use Rattle.working.specs.declared.Desk.{Desk}
 use Rattle.working.specs.declared.Refusal.{Refusal}
@@ -35,7 +35,7 @@ pub record Sound (s : Section) : Type 0 where
   pub places : length (s .vehicles) ≡ 24
   pub well : wellMade s ≡ true
 
-pub well-at : (s : Section) (x : Station) → Sound s → Well x (deskOf s x) (deskOf s (otherAt x)) (lineOf s)
+pub well-at : (s : Section) (x : Station) → Sound s → Well x (deskOf s x) (deskOf s (otherAt x)) (vehiclesOf s)
 well-at s x g = well-of s x (g .places) (g .well)
 
 -- ---- what each act leaves, seen from its station
@@ -48,11 +48,11 @@ named-there B n A [] h = absurd (false≢true h)
 named-there A n B [] h = absurd (false≢true h)
 named-there B n B [] h = absurd (false≢true h)
 
-well-meet : (s : Section) (x : Station) (i : ℕ) → Sound s → mayMeet (lineOf s) i ≡ true → Well A (s .a) (s .b) (metAt x i (lineOf s))
+well-meet : (s : Section) (x : Station) (i : ℕ) → Sound s → mayMeet (vehiclesOf s) i ≡ true → Well A (s .a) (s .b) (metAt x i (vehiclesOf s))
 well-meet s x i g may =
-    let m = meets (lineOf s) i may in
-    let first = well-turn x A (s .a) (s .b) i (lineOf s) (well-at s A g) (m .first) in
-    well-turn x A (s .a) (s .b) (suc i) (turnAt x i (lineOf s)) first (rw (turn-left-on x i (suc i) (lineOf s)) (m .second))
+    let m = meets (vehiclesOf s) i may in
+    let first = well-redirect x A (s .a) (s .b) i (vehiclesOf s) (well-at s A g) (m .first) in
+    well-redirect x A (s .a) (s .b) (suc i) (redirectAt x i (vehiclesOf s)) first (rw (redirect-left-on x i (suc i) (vehiclesOf s)) (m .second))
 
 -- ---- the cases
 
@@ -60,20 +60,20 @@ pub data Change (s : Section) : Decoded → Stepped → Type 0 where
   refusal : (e : Decoded) (why : Refusal) → Change s e (refused s why)
   emptying : (e : Decoded) (force : Bool) → Change s e (accepted (emptied force (s .refused)))
   departure : (x : Station) (time : ℕ) (act : Act) {p : Departing} → s .force ≡ true → Departs act x (deskOf s x) p
-      → Well x (p .desk) (deskOf s (otherAt x)) (insertAt x (p .vehicle) (lineOf s)) → Change s (Says (At x time act)) (doneBy s x (Depart p))
-  arrival : (x : Station) (time : ℕ) (y : Station) (n : ℕ) (k : Nearest x (lineOf s)) → s .force ≡ true → mayEnter x (k .vehicle) ≡ true
+      → Well x (p .desk) (deskOf s (otherAt x)) (insertAt x (p .vehicle) (vehiclesOf s)) → Change s (Says (At x time act)) (doneBy s x (Depart p))
+  arrival : (x : Station) (time : ℕ) (y : Station) (n : ℕ) (k : Nearest x (vehiclesOf s)) → s .force ≡ true → mayEnter x (k .vehicle) ≡ true
       → Well x (arriveDesk x (deskOf s x) time (k .vehicle)) (deskOf s (otherAt x)) (k .others)
-      → Change s (Says (At x time (acts.Receive y n))) (accepted (withDesk (withLine s (k .others)) x (arriveDesk x (deskOf s x) time (k .vehicle))))
-  meeting : (x y : Station) (n i : ℕ) → s .force ≡ true → Well A (s .a) (s .b) (metAt x i (lineOf s))
-      → Change s (Says (Meet x y n)) (accepted (withLine s (metAt x i (lineOf s))))
+      → Change s (Says (At x time (acts.Receive y n))) (accepted (withDesk (withVehicles s (k .others)) x (arriveDesk x (deskOf s x) time (k .vehicle))))
+  meeting : (x y : Station) (n i : ℕ) → s .force ≡ true → Well A (s .a) (s .b) (metAt x i (vehiclesOf s))
+      → Change s (Says (Meet x y n)) (accepted (withVehicles s (metAt x i (vehiclesOf s))))
 
-fated : (s : Section) (x : Station) (time : ℕ) (act : Act) (p : Plan) → Sound s → Fate act x (s .force) (deskOf s x) time (nearestAt x (lineOf s)) p
+fated : (s : Section) (x : Station) (time : ℕ) (act : Act) (p : Plan) → Sound s → Fate act x (s .force) (deskOf s x) time (nearestAt x (vehiclesOf s)) p
     → Change s (Says (At x time act)) (doneBy s x p)
 fated s x time act p g (refuses why) = refusal (Says (At x time act)) why
 fated s x time act p g (departs {p = q} f leaves) =
-    departure x time act f leaves (well-insert act x (deskOf s x) (deskOf s (otherAt x)) q (lineOf s) (well-at s x g) leaves)
+    departure x time act f leaves (well-insert act x (deskOf s x) (deskOf s (otherAt x)) q (vehiclesOf s) (well-at s x g) leaves)
 fated s x time act p g (arrives y n is f named may) =
-    let k = nearest x (lineOf s) (named-there y n x (lineOf s) named) in
+    let k = nearest x (vehiclesOf s) (named-there y n x (vehiclesOf s) named) in
     let enters : mayEnter x (k .vehicle) ≡ true = rw (k .near) at may in
     let before = rw (k .line) at (well-at s x g) in
     let after = well-arrive x (deskOf s x) (deskOf s (otherAt x)) time (k .vehicle) (k .others) before enters in
@@ -85,12 +85,12 @@ changed s Begin g r =
     scanned (λ v. Change s (Says Begin) (settled s v (emptied true (s .refused)))) (beginTests (s .force)) (refusal (Says Begin))
     (λ n. emptying (Says Begin) true)
 changed s (At x time act) g r =
-    fated s x time act (planOf act x (s .force) (deskOf s x) time (nearestAt x (lineOf s))) g
-    (fate act x (s .force) (deskOf s x) time (nearestAt x (lineOf s)) r (well-at s x g .own .bounds))
+    fated s x time act (planOf act x (s .force) (deskOf s x) time (nearestAt x (vehiclesOf s))) g
+    (fate act x (s .force) (deskOf s x) time (nearestAt x (vehiclesOf s)) r (well-at s x g .own .bounds))
 changed s (Meet x y n) g r =
-    let i = findOf y n (lineOf s) in
-    scanned (λ v. Change s (Says (Meet x y n)) (settled s v (withLine s (metAt x i (lineOf s))))) (meetTests (s .force) (lineOf s) i) (refusal (Says (Meet x y n)))
-    (λ none. let p = meet-passes (s .force) (lineOf s) i none in meeting x y n i (p .begun) (well-meet s x i g (p .may)))
+    let i = findOf y n (vehiclesOf s) in
+    scanned (λ v. Change s (Says (Meet x y n)) (settled s v (withVehicles s (metAt x i (vehiclesOf s))))) (meetTests (s .force) (vehiclesOf s) i) (refusal (Says (Meet x y n)))
+    (λ none. let p = meet-passes (s .force) (vehiclesOf s) i none in meeting x y n i (p .begun) (well-meet s x i g (p .may)))
 changed s Resume g r =
     scanned (λ v. Change s (Says Resume) (settled s v (emptied false (s .refused)))) (resumeTests (s .force) (s .len)) (refusal (Says Resume))
     (λ n. emptying (Says Resume) false)
@@ -110,10 +110,10 @@ change s bytes g = rw (step-is s bytes (g .well)) (by (decode bytes) refl)
 
 -- the section with the vehicles l and x's desk e
 sound-with : (s : Section) (x : Station) (e : Desk) (l : List Vehicle) → s .force ≡ true → Well x e (deskOf s (otherAt x)) l
-    → Sound (withDesk (withLine s l) x e)
+    → Sound (withDesk (withVehicles s l) x e)
 sound-with s x e l f w = record { places = places x; well = made-of s x e l f w }
   where
-    places : (x : Station) → length (withDesk (withLine s l) x e .vehicles) ≡ 24
+    places : (x : Station) → length (withDesk (withVehicles s l) x e .vehicles) ≡ 24
     places A = length-padTo 24 l
     places B = length-padTo 24 l
 
@@ -126,9 +126,9 @@ sound-change : (s : Section) (e : Decoded) (r : Stepped) → Sound s → Change 
 unfolding wellMade
 sound-change s e r g (refusal k why) = record { places = g .places; well = g .well }
 sound-change s e r g (emptying k force) = sound-emptied force (s .refused)
-sound-change s e r g (departure x time act {p} f leaves w) = sound-with s x (p .desk) (insertAt x (p .vehicle) (lineOf s)) f w
+sound-change s e r g (departure x time act {p} f leaves w) = sound-with s x (p .desk) (insertAt x (p .vehicle) (vehiclesOf s)) f w
 sound-change s e r g (arrival x time y n k f may w) = sound-with s x (arriveDesk x (deskOf s x) time (k .vehicle)) (k .others) f w
-sound-change s e r g (meeting x y n i f w) = sound-with s A (s .a) (metAt x i (lineOf s)) f w
+sound-change s e r g (meeting x y n i f w) = sound-with s A (s .a) (metAt x i (vehiclesOf s)) f w
 
 -- ---- the theorem: a step, accepted or refused, leaves a well-made section well made
 

@@ -4,7 +4,7 @@ use Prim.Native.Nat.{_≤_, ℕ}
 use Rattle.working.proofs.Every.{Every, all-every, every-all}
 use Rattle.working.proofs.Tests.{Each, and, both, each-holds, every-holds}
 use Rattle.working.specs.Entries.{every}
-use Rattle.working.specs.Sections.{deskOf, lineOf, numberAt}
+use Rattle.working.specs.Sections.{deskOf, vehiclesOf, numberAt}
 use Rattle.working.specs.WellMade.{all, countFrom, deskTests, differ, isBlank, isFrom, isIdle, isOpener, madeTests, movementTests, notLater, numbered, ordered, shaped, vehicleTests, wellMade}
 use Rattle.working.specs.declared.Desk.{Desk}
 use Rattle.working.specs.declared.Movement.the-variants.{Open, Return, Through, Train}
@@ -118,11 +118,11 @@ desk-tests n d l m = every-holds (deskTests n d l) (search (le-leb, every-all, n
 pub record SectionMade (s : Section) : Type 0 where
   pub fits : s .len ≤ 24
   pub blank : all isBlank (drop (s .len) (s .vehicles)) ≡ true
-  pub shape : Every Shape (lineOf s)
-  pub order : ordered (lineOf s) ≡ true
-  pub distinct : differ (lineOf s) ≡ true
-  pub a : DeskMade 1 (s .a) (lineOf s)
-  pub b : DeskMade 2 (s .b) (lineOf s)
+  pub shape : Every Shape (vehiclesOf s)
+  pub order : ordered (vehiclesOf s) ≡ true
+  pub distinct : differ (vehiclesOf s) ≡ true
+  pub a : DeskMade 1 (s .a) (vehiclesOf s)
+  pub b : DeskMade 2 (s .b) (vehiclesOf s)
   pub idle : (s .force || isIdle s) ≡ true
 
 pub section-made : (s : Section) → wellMade s ≡ true → SectionMade s
@@ -133,6 +133,6 @@ pub section-tests : (s : Section) → SectionMade s → wellMade s ≡ true
 unfolding wellMade
 section-tests s m = every-holds (madeTests s) (search (le-leb, every-all, shape-tests, desk-tests) depth 12)
 
-pub desk-of : (s : Section) (x : Station) → SectionMade s → DeskMade (numberAt x) (deskOf s x) (lineOf s)
+pub desk-of : (s : Section) (x : Station) → SectionMade s → DeskMade (numberAt x) (deskOf s x) (vehiclesOf s)
 desk-of s A m = m .a
 desk-of s B m = m .b

@@ -4,7 +4,7 @@
 use Prim.Native.Nat.{_%_, _+_, _<_, ℕ}
 use Rattle.working.proofs.Computing.{step-computes}
 use Rattle.working.proofs.Demand3.{demand3}
-use Rattle.working.proofs.Line.{other-differs}
+use Rattle.working.proofs.Vehicles.{other-differs}
 use Rattle.working.proofs.Lists.{Todo, after, done, runs}
 use Rattle.working.proofs.Literals.{begin, figures, opens, plain, receive, resume, returns, returnsAsking, sameSection, through, train, trainGranting, vehicle, working}
 use Rattle.working.proofs.Tests.{both}

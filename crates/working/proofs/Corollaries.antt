@@ -7,7 +7,7 @@ use Rattle.working.proofs.Demand3.{kept}
 use Rattle.working.proofs.Found.{Found, cut, found, the-end, whole}
 use Rattle.working.proofs.Invariant.{trainOne, trains, weigh-snoc}
 use Rattle.working.proofs.Kept.{kept-at}
-use Rattle.working.proofs.Line.{nearest}
+use Rattle.working.proofs.Vehicles.{nearest}
 use Rattle.working.proofs.Lists.{split-run, step-did}
 use Rattle.working.proofs.Sides.{moves-far, movesOf}
 use Rattle.working.proofs.Tests.{both}
@@ -20,7 +20,7 @@ use Rattle.working.specs.Events.{At, Bad, Begin, Decoded, Event, Meet, R
 use Rattle.working.specs.Reasons.{beginTests, findOf, meetTests, resumeTests, testsOf}
 use Rattle.working.specs.Refusals.{Test, firstOf, numberOf, orElse}
 use Rattle.working.specs.Runs.{Done, Run, next}
-use Rattle.working.specs.Sections.{deskOf, fresh, lineOf, nearestAt, numberAt, otherAt}
+use Rattle.working.specs.Sections.{deskOf, fresh, vehiclesOf, nearestAt, numberAt, otherAt}
 use Rattle.working.specs.Steps.{doneBy, entered, onDecoded, planOf, settled, unlessRefused}
 use Rattle.working.specs.WellMade.{isFrom}
 use Rattle.working.specs.declared.Answer.the-variants as answer
@@ -92,8 +92,8 @@ module _ (s : Section) where
   fine-entered : (e : Event) → Fine (entered s e .answer)
   unfolding entered
   fine-entered Begin = fine-settled (beginTests (s .force)) _ refl
-  fine-entered (At x time act) = fine-act x act (s .force) (deskOf s x) time (nearestAt x (lineOf s))
-  fine-entered (Meet x sender form) = fine-settled (meetTests (s .force) (lineOf s) (findOf sender form (lineOf s))) _ refl
+  fine-entered (At x time act) = fine-act x act (s .force) (deskOf s x) time (nearestAt x (vehiclesOf s))
+  fine-entered (Meet x sender form) = fine-settled (meetTests (s .force) (vehiclesOf s) (findOf sender form (vehiclesOf s))) _ refl
   fine-entered Resume = fine-settled (resumeTests (s .force) (s .len)) _ refl
 
 -- what bytes come to is no 5 either
@@ -129,11 +129,11 @@ never-five {s = s} run before d after is = let (t, first, later) = split-run bef
 
 -- ---- a TRAIN that comes is owed
 
-pub train-owed : {l : List Done} {s : Section} → Run fresh l s → (x : Station) → 0 < length (lineOf s)
-    → isFrom (numberAt (otherAt x)) (nearestAt x (lineOf s)) ≡ true → isTrain (kindIn (nearestAt x (lineOf s) .movement)) ≡ true
+pub train-owed : {l : List Done} {s : Section} → Run fresh l s → (x : Station) → 0 < length (vehiclesOf s)
+    → isFrom (numberAt (otherAt x)) (nearestAt x (vehiclesOf s)) ≡ true → isTrain (kindIn (nearestAt x (vehiclesOf s) .movement)) ≡ true
     → 0 < deskOf s x .clears .owes
 train-owed {s = s} run x there from train =
-    let k = nearest x (lineOf s) there in
+    let k = nearest x (vehiclesOf s) there in
     let v = k .vehicle in
     let far = otherAt x in
     let one : trainOne (v .movement) ≡ 1 = rw (rw (k .near) at train) in

@@ -6,7 +6,7 @@ use Rattle.working.proofs.Changes.{Change, Sound, arrival, change, depa
 use Rattle.working.proofs.OwnBytes.{Follow, and-then, log-follows, over}
 use Rattle.working.proofs.Turns.{entries-sum, turns-few}
 use Rattle.working.specs.Events.{Decoded, decode}
-use Rattle.working.specs.Sections.{countRefusal, fresh, withDesk, withLine}
+use Rattle.working.specs.Sections.{countRefusal, fresh, withDesk, withVehicles}
 use Rattle.working.specs.Steps.{stepOf}
 use Rattle.working.specs.Turns.{Turn, acceptedIn, entriesIn, isAccepted, ownBytes, refusedIn, resultOf, sectionAfter, turnsOf}
 use Rattle.working.specs.WellMade.{oneIf}
@@ -25,7 +25,7 @@ use native.Mathlib.Omega.{arith}
 
 -- ---- one step
 
-same-count : (s : Section) (x : Station) (d : Desk) (l : List Vehicle) → withDesk (withLine s l) x d .refused ≡ s .refused
+same-count : (s : Section) (x : Station) (d : Desk) (l : List Vehicle) → withDesk (withVehicles s l) x d .refused ≡ s .refused
 same-count s A d l = refl
 same-count s B d l = refl
 

@@ -7,16 +7,16 @@ use Rattle.working.proofs.Changes.{change}
 use Rattle.working.proofs.Every.{Every, every-at}
 use Rattle.working.proofs.Kept.{Good, good-emptied, good-step}
 use Rattle.working.proofs.Lists.{StepDid, each-result, join-run, split-run, step-by, step-did}
-use Rattle.working.proofs.Made.{length-line}
+use Rattle.working.proofs.Made.{length-vehicles}
 use Rattle.working.proofs.Opposed.{opposed-openers}
 use Rattle.working.proofs.Swap.{Opposite, ab, ba, swapped}
-use Rattle.working.proofs.Told.{Told, granted-line, told-change, trains-told}
+use Rattle.working.proofs.Told.{Told, granted-vehicles, told-change, trains-told}
 use Rattle.working.specs.Acts.{Act}
 use Rattle.working.specs.Demand3.{AcceptedAt, Demand3, ReceivesIt, onTheWayTo, trainsOf, vehicleAt}
 use Rattle.working.specs.Departures.{departureOf, leftSlowly}
 use Rattle.working.specs.Events.{decode}
 use Rattle.working.specs.Runs.{Done, Run, StepBy, next, stop}
-use Rattle.working.specs.Sections.{deskOf, fresh, lineOf, otherAt, unused}
+use Rattle.working.specs.Sections.{deskOf, fresh, vehiclesOf, otherAt, unused}
 use Rattle.working.specs.Steps.{stepOf}
 use Rattle.working.specs.WellMade.{isOpener}
 use Rattle.working.specs.declared.Section.{Section}
@@ -33,7 +33,7 @@ use native.Mathlib.Omega.{arith}
 -- after the steps h
 pub record Kept (h : List Done) (s : Section) : Type 0 where
   pub good : Good s
-  pub told : Every (Told h) (lineOf s)
+  pub told : Every (Told h) (vehiclesOf s)
 
 kept-step : (h : List Done) (d : Done) (s t : Section) → Kept h s → StepBy (d .form) s (d .bytes) (d .answer) t → Kept (h ++ d ∷ []) t
 kept-step h d s t k b =
@@ -91,15 +91,15 @@ demand3 {l} {s} run = record {
     k : Kept l s
     k = kept run
 
-    len : length (lineOf s) ≡ s .len
-    len = length-line s (k .good .sound .places) (k .good .sound .well)
+    len : length (vehiclesOf s) ≡ s .len
+    len = length-vehicles s (k .good .sound .places) (k .good .sound .well)
 
     told : (i : ℕ) → i < s .len → Told l (vehicleAt s i)
-    told i there = every-at (Told l) unused (lineOf s) (k .told) i (omega (arith, len))
+    told i there = every-at (Told l) unused (vehiclesOf s) (k .told) i (omega (arith, len))
 
     slow : (i : ℕ) → i < s .len → isOpener (vehicleAt s i .movement) ≡ true → leftSlowly (departureOf l (vehicleAt s i)) ≡ true
     slow i there opener = let t = told i there in rw (t .is) (t .slowly opener)
 
     owed : (x : Station) → deskOf s x .clears .owes ≡ deskOf s (otherAt x) .clears .holds + trainsOf l s (otherAt x) + onTheWayTo s (otherAt x)
-    owed A = omega (arith, k .good .kept .own .sum, trains-told l B (lineOf s) (k .told), granted-line A (lineOf s))
-    owed B = omega (arith, k .good .kept .far .sum, trains-told l A (lineOf s) (k .told), granted-line B (lineOf s))
+    owed A = omega (arith, k .good .kept .own .sum, trains-told l B (vehiclesOf s) (k .told), granted-vehicles A (vehiclesOf s))
+    owed B = omega (arith, k .good .kept .far .sum, trains-told l A (vehiclesOf s) (k .told), granted-vehicles B (vehiclesOf s))

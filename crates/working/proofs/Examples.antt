@@ -2,7 +2,7 @@
 -- Assumes nothing.
 use Rattle.working.proofs.Computing.{reading-computes, step-computes}
 use Rattle.working.proofs.Demand3.{demand3}
-use Rattle.working.proofs.Line.{other-differs}
+use Rattle.working.proofs.Vehicles.{other-differs}
 use Rattle.working.proofs.Lists.{Todo, after, done, runs}
 use Rattle.working.proofs.Literals.{begin, opens, receive, returns}
 use Rattle.working.specs.Acts as acts

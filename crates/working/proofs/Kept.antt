@@ -5,17 +5,17 @@ use Prim.Native.Nat.{suc, ℕ}
 use Rattle.working.proofs.Changes.{Change, Sound, arrival, change, departure, emptying, meeting, refusal, sound-emptied, sound-step, well-at}
 use Rattle.working.proofs.Clauses.{Shape}
 use Rattle.working.proofs.Invariant.{Half, Halves, openers, quiet}
-use Rattle.working.proofs.Line.{From, every-end, not-other, number-same, ordered-far}
-use Rattle.working.proofs.Made.{Well, line-with, other-sender}
+use Rattle.working.proofs.Vehicles.{From, every-end, not-other, number-same, ordered-far}
+use Rattle.working.proofs.Made.{Well, vehicles-with, other-sender}
 use Rattle.working.proofs.Plans.{Departs}
 use Rattle.working.proofs.Receipts.{Receipt, keeps-far, keeps-own, of-other, of-own, receipt}
-use Rattle.working.proofs.Sides.{moves-far, moves-none, moves-own, moves-past, moves-skip, moves-turned, movesOf}
+use Rattle.working.proofs.Sides.{moves-far, moves-none, moves-own, moves-past, moves-skip, moves-redirected, movesOf}
 use Rattle.working.specs.Acts.{Act}
 use Rattle.working.specs.Effects.{Departing, arriveDesk}
 use Rattle.working.specs.Events.{Decoded, decode}
 use Rattle.working.specs.Reasons.{mayEnter}
-use Rattle.working.specs.Sections.{deskOf, emptied, freshDesk, insertAt, lineOf, otherAt, withDesk, withLine}
-use Rattle.working.specs.Steps.{metAt, stepOf, turnAt}
+use Rattle.working.specs.Sections.{deskOf, emptied, freshDesk, insertAt, vehiclesOf, otherAt, withDesk, withVehicles}
+use Rattle.working.specs.Steps.{metAt, stepOf, redirectAt}
 use Rattle.working.specs.declared.Desk.{Desk}
 use Rattle.working.specs.declared.Section.{Section}
 use Rattle.working.specs.declared.Station.the-variants.{A, B}
@@ -32,24 +32,24 @@ Between x d o l = Halves d o (movesOf x l) (movesOf (otherAt x) l)
 
 pub record Good (s : Section) : Type 0 where
   pub sound : Sound s
-  pub kept : Between A (s .a) (s .b) (lineOf s)
+  pub kept : Between A (s .a) (s .b) (vehiclesOf s)
 
-pub kept-at : (x : Station) (s : Section) → Good s → Between x (deskOf s x) (deskOf s (otherAt x)) (lineOf s)
+pub kept-at : (x : Station) (s : Section) → Good s → Between x (deskOf s x) (deskOf s (otherAt x)) (vehiclesOf s)
 kept-at A s g = g .kept
 kept-at B s g = record { own = g .kept .far; far = g .kept .own }
 
 -- the section with the vehicles l and x's desk e
 kept-with : (s : Section) (x : Station) (e : Desk) (l : List Vehicle) → Well x e (deskOf s (otherAt x)) l → Between x e (deskOf s (otherAt x)) l
-    → Between A (withDesk (withLine s l) x e .a) (withDesk (withLine s l) x e .b) (lineOf (withDesk (withLine s l) x e))
-kept-with s A e l w h = rw (line-with 24 l (w .fits)) h
-kept-with s B e l w h = rw (line-with 24 l (w .fits)) (record { own = h .far; far = h .own })
+    → Between A (withDesk (withVehicles s l) x e .a) (withDesk (withVehicles s l) x e .b) (vehiclesOf (withDesk (withVehicles s l) x e))
+kept-with s A e l w h = rw (vehicles-with 24 l (w .fits)) h
+kept-with s B e l w h = rw (vehicles-with 24 l (w .fits)) (record { own = h .far; far = h .own })
 
 kept-depart : (s : Section) (act : Act) (x : Station) (p : Departing) → Good s → Departs act x (deskOf s x) p
-    → Between x (p .desk) (deskOf s (otherAt x)) (insertAt x (p .vehicle) (lineOf s))
+    → Between x (p .desk) (deskOf s (otherAt x)) (insertAt x (p .vehicle) (vehiclesOf s))
 kept-depart s act x p g q =
     let own : From x (p .vehicle) = rw (q .sender) (number-same x) in
-    rw (moves-own x (p .vehicle) (lineOf s) own, moves-past x (p .vehicle) (lineOf s) (not-other x (p .vehicle) own))
-    (q .keeps (deskOf s (otherAt x)) (movesOf x (lineOf s)) (movesOf (otherAt x) (lineOf s)) (kept-at x s g))
+    rw (moves-own x (p .vehicle) (vehiclesOf s) own, moves-past x (p .vehicle) (vehiclesOf s) (not-other x (p .vehicle) own))
+    (q .keeps (deskOf s (otherAt x)) (movesOf x (vehiclesOf s)) (movesOf (otherAt x) (vehiclesOf s)) (kept-at x s g))
 
 kept-arrive : (x : Station) (d o : Desk) (time : ℕ) (v : Vehicle) (l : List Vehicle) → Well x d o (insertAt x v l) → Between x d o (insertAt x v l)
     → mayEnter x v ≡ true → Between x (arriveDesk x d time v) o l
@@ -72,19 +72,19 @@ kept-emptied = record { own = half; far = half }
     half : Half freshDesk freshDesk [] []
     half = quiet refl refl refl refl tt (openers tt)
 
-kept-change : (s : Section) (e : Decoded) (r : Stepped) → Good s → Change s e r → Between A (r .section .a) (r .section .b) (lineOf (r .section))
+kept-change : (s : Section) (e : Decoded) (r : Stepped) → Good s → Change s e r → Between A (r .section .a) (r .section .b) (vehiclesOf (r .section))
 kept-change s e r g (refusal k why) = g .kept
 kept-change s e r g (emptying k force) = kept-emptied
-kept-change s e r g (departure x time act {p} f leaves w) = kept-with s x (p .desk) (insertAt x (p .vehicle) (lineOf s)) w (kept-depart s act x p g leaves)
+kept-change s e r g (departure x time act {p} f leaves w) = kept-with s x (p .desk) (insertAt x (p .vehicle) (vehiclesOf s)) w (kept-depart s act x p g leaves)
 kept-change s e r g (arrival x time y n k f may w) =
     let before = rw (k .line) at (well-at s x (g .sound)) in
     kept-with s x (arriveDesk x (deskOf s x) time (k .vehicle)) (k .others) w
     (kept-arrive x (deskOf s x) (deskOf s (otherAt x)) time (k .vehicle) (k .others) before (rw (k .line) at (kept-at x s g)) may)
 kept-change s e r g (meeting x y n i f w) =
-    rw (line-with 24 (metAt x i (lineOf s)) (w .fits), met A, met B) (g .kept)
+    rw (vehicles-with 24 (metAt x i (vehiclesOf s)) (w .fits), met A, met B) (g .kept)
   where
-    met : (z : Station) → movesOf z (metAt x i (lineOf s)) ≡ movesOf z (lineOf s)
-    met z = moves-turned z x (suc i) (turnAt x i (lineOf s)) ∙ moves-turned z x i (lineOf s)
+    met : (z : Station) → movesOf z (metAt x i (vehiclesOf s)) ≡ movesOf z (vehiclesOf s)
+    met z = moves-redirected z x (suc i) (redirectAt x i (vehiclesOf s)) ∙ moves-redirected z x i (vehiclesOf s)
 
 pub good-emptied : (force : Bool) (n : ℕ) → Good (emptied force n)
 good-emptied force n = record { sound = sound-emptied force n; kept = kept-emptied }

@@ -193,7 +193,7 @@ receipts x =
 
 -- A2 and A1, then B1: A1 and B1 are the pair; A1 is named
 abbrev line : Movement → ℕ → Bool → Movement → ℕ → Bool → List Vehicle
-line m to met n head turned = vehicle Through 1 2 2 false 1 ∷ vehicle m 1 1 to met 1 ∷ vehicle n 2 1 head turned 1 ∷ []
+line m to met n head redirected = vehicle Through 1 2 2 false 1 ∷ vehicle m 1 1 to met 1 ∷ vehicle n 2 1 head redirected 1 ∷ []
 
 abbrev meeting : List Vehicle → Section
 meeting l = working 4 l mine theirs
@@ -220,7 +220,7 @@ declared =
     -- both then head to the station given and are met; no clock moves, and the third stays as it is
     ∷ row (meeting (line (Open 8) 2 false Through 1 false)) (meet 1 1 1) plain (meeting (line (Open 8) 1 true Through 1 true))
     ∷ row (meeting (line Through 2 true (Open 8) 1 true)) (meet 2 1 1) plain (meeting (line Through 2 true (Open 8) 2 true))
-    -- two of one sender may meet, once one of them has turned
+    -- two of one sender may meet, once one of them has redirected
     ∷ row (meeting (vehicle Through 1 2 2 false 1 ∷ vehicle Through 1 1 1 true 1 ∷ [])) (meet 2 1 2) plain
     (meeting (vehicle Through 1 2 2 true 1 ∷ vehicle Through 1 1 2 true 1 ∷ []))
     ∷ []

@@ -15,9 +15,8 @@ pub mod FirstEntry
 pub mod Found
 pub mod Invariant
 pub mod Judged
-pub mod KindTable
 pub mod Kept
-pub mod Line
+pub mod KindTable
 pub mod Lists
 pub mod Literals
 pub mod LogSwap
@@ -44,4 +43,5 @@ pub mod Tests
 pub mod Told
 pub mod Turns
 pub mod TurnsExamples
+pub mod Vehicles
 pub mod WrittenThenRead

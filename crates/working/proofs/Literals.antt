@@ -115,9 +115,9 @@ movementFigures Through = 3 ∷ 0 ∷ 0 ∷ []
 movementFigures (Return asked granted) = 4 ∷ asked ∷ granted ∷ []
 movementFigures (Train asked granted) = 5 ∷ asked ∷ granted ∷ []
 
-abbrev lineFigures : List Vehicle → List ℕ
-lineFigures [] = []
-lineFigures (v ∷ l) = movementFigures (v .movement) ++ v .sender ∷ v .form ∷ v .heading ∷ bit (v .met) ∷ v .class ∷ lineFigures l
+abbrev vehicleFigures : List Vehicle → List ℕ
+vehicleFigures [] = []
+vehicleFigures (v ∷ l) = movementFigures (v .movement) ++ v .sender ∷ v .form ∷ v .heading ∷ bit (v .met) ∷ v .class ∷ vehicleFigures l
 
 abbrev intervalFigures : Interval → List ℕ
 intervalFigures Stopped = 0 ∷ 0 ∷ []
@@ -127,7 +127,7 @@ abbrev deskFigures : Desk → List ℕ
 deskFigures d = d .clock ∷ d .last ∷ d .sent ∷ bit (d .out) ∷ d .guest ∷ d .clears .asked ∷ d .clears .holds ∷ d .clears .owes ∷ intervalFigures (d .interval)
 
 abbrev pub figuresOf : Section → List ℕ
-figuresOf s = s .len ∷ bit (s .force) ∷ s .refused ∷ deskFigures (s .a) ++ deskFigures (s .b) ++ lineFigures (s .vehicles)
+figuresOf s = s .len ∷ bit (s .force) ∷ s .refused ∷ deskFigures (s .a) ++ deskFigures (s .b) ++ vehicleFigures (s .vehicles)
 
 abbrev sameFigures : List ℕ → List ℕ → Bool
 sameFigures [] [] = true

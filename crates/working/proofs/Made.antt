@@ -4,14 +4,14 @@
 use Prim.Native.Nat.{_+_, _-_, _<_, _≤_, suc, zero, ℕ}
 use Rattle.working.proofs.Clauses.{DeskMade, Numbered, Shape, desk-of, section-made, section-tests}
 use Rattle.working.proofs.Every.{Every, every-all, every-map}
-use Rattle.working.proofs.Line.{From, NotFrom, differ-insert, eqb-sym, every-end, every-insert, insert-length, not-other, not-own, ordered-far, ordered-own, sum-insert}
+use Rattle.working.proofs.Vehicles.{From, NotFrom, differ-insert, eqb-sym, every-end, every-insert, insert-length, not-other, not-own, ordered-far, ordered-own, sum-insert}
 use Rattle.working.proofs.Plans.{Departs}
 use Rattle.working.proofs.Receipts.{Arrives, Receipt, arrives-far, arrives-own, of-other, of-own, receipt}
 use Rattle.working.proofs.Tests.{and, both, clash, or-second}
 use Rattle.working.specs.Acts.{Act}
 use Rattle.working.specs.Effects.{Departing, arriveDesk, otherDesk, ownDesk}
 use Rattle.working.specs.Reasons.{mayEnter}
-use Rattle.working.specs.Sections.{deskOf, insertAt, lineOf, numberAt, otherAt, padTo, unused, withDesk, withLine}
+use Rattle.working.specs.Sections.{deskOf, insertAt, vehiclesOf, numberAt, otherAt, padTo, unused, withDesk, withVehicles}
 use Rattle.working.specs.WellMade.{all, countFrom, differ, isBlank, isFrom, oneIf, ordered, same, wellMade}
 use Rattle.working.specs.declared.Desk.{Desk}
 use Rattle.working.specs.declared.Section.{Section}
@@ -154,15 +154,15 @@ well-arrive x d o time v l w may = by (receipt x d time v may)
 
 -- ---- the section
 
-pub line-with : (n : ℕ) (l : List Vehicle) → length l ≤ n → take (length l) (padTo n l) ≡ l
+pub vehicles-with : (n : ℕ) (l : List Vehicle) → length l ≤ n → take (length l) (padTo n l) ≡ l
 unfolding padTo
-line-with n [] h = refl
-line-with zero (x ∷ l) h = absurd (omega arith)
-line-with (suc n) (x ∷ l) h = ap (x ∷_) (line-with n l (omega arith))
+vehicles-with n [] h = refl
+vehicles-with zero (x ∷ l) h = absurd (omega arith)
+vehicles-with (suc n) (x ∷ l) h = ap (x ∷_) (vehicles-with n l (omega arith))
 
-pub line-after : (s : Section) (x : Station) (e : Desk) (l : List Vehicle) → length l ≤ 24 → lineOf (withDesk (withLine s l) x e) ≡ l
-line-after s A e l h = line-with 24 l h
-line-after s B e l h = line-with 24 l h
+pub vehicles-after : (s : Section) (x : Station) (e : Desk) (l : List Vehicle) → length l ≤ 24 → vehiclesOf (withDesk (withVehicles s l) x e) ≡ l
+vehicles-after s A e l h = vehicles-with 24 l h
+vehicles-after s B e l h = vehicles-with 24 l h
 
 pub length-padTo : (n : ℕ) (l : List Vehicle) → length (padTo n l) ≡ n
 unfolding padTo
@@ -177,14 +177,14 @@ rest-blank zero (v ∷ l) = refl
 rest-blank (suc n) [] = rest-blank n []
 rest-blank (suc n) (v ∷ l) = rest-blank n l
 
-pub length-line : (s : Section) → length (s .vehicles) ≡ 24 → wellMade s ≡ true → length (lineOf s) ≡ s .len
-length-line s places h = length-take-le (s .len) (s .vehicles) (omega (arith, section-made s h .fits))
+pub length-vehicles : (s : Section) → length (s .vehicles) ≡ 24 → wellMade s ≡ true → length (vehiclesOf s) ≡ s .len
+length-vehicles s places h = length-take-le (s .len) (s .vehicles) (omega (arith, section-made s h .fits))
 
-pub well-of : (s : Section) (x : Station) → length (s .vehicles) ≡ 24 → wellMade s ≡ true → Well x (deskOf s x) (deskOf s (otherAt x)) (lineOf s)
+pub well-of : (s : Section) (x : Station) → length (s .vehicles) ≡ 24 → wellMade s ≡ true → Well x (deskOf s x) (deskOf s (otherAt x)) (vehiclesOf s)
 well-of s x places h =
     let m = section-made s h in
     record {
-      fits = omega (arith, length-line s places h, m .fits);
+      fits = omega (arith, length-vehicles s places h, m .fits);
       shape = m .shape;
       order = m .order;
       distinct = m .distinct;
@@ -194,11 +194,11 @@ well-of s x places h =
 
 -- the section with the vehicles l and x's desk e
 pub made-of : (s : Section) (x : Station) (e : Desk) (l : List Vehicle) → s .force ≡ true → Well x e (deskOf s (otherAt x)) l
-    → wellMade (withDesk (withLine s l) x e) ≡ true
+    → wellMade (withDesk (withVehicles s l) x e) ≡ true
 made-of s x e l f w = by x (w .own) (w .far)
   where
     line : take (length l) (padTo 24 l) ≡ l
-    line = line-with 24 l (w .fits)
+    line = vehicles-with 24 l (w .fits)
 
     made : (d o : Desk) → DeskMade 1 d l → DeskMade 2 o l
         → wellMade (record { vehicles = padTo 24 l; len = length l; force = s .force; refused = s .refused; a = d; b = o }) ≡ true
@@ -216,6 +216,6 @@ made-of s x e l f w = by x (w .own) (w .far)
         })
 
     by : (x : Station) → DeskMade (numberAt x) e l → DeskMade (numberAt (otherAt x)) (deskOf s (otherAt x)) l
-        → wellMade (withDesk (withLine s l) x e) ≡ true
+        → wellMade (withDesk (withVehicles s l) x e) ≡ true
     by A own far = made e (s .b) own far
     by B own far = made (s .a) e far own

@@ -57,8 +57,8 @@ abbrev unusedHolds : ℕ → Vehicle → Section
 unusedHolds place v = record { vehicles = set (padTo 24 []) place v; len = 0; force = true; refused = 0; a = freshDesk; b = freshDesk }
 
 -- A1 to A12 and B1 to B12, from A to B
-abbrev fullLine : List Vehicle
-fullLine =
+abbrev fullSection : List Vehicle
+fullSection =
     engine A 12 ∷ engine A 11 ∷ engine A 10 ∷ engine A 9 ∷ engine A 8 ∷ engine A 7 ∷ engine A 6 ∷ engine A 5 ∷ engine A 4 ∷ engine A 3 ∷ engine A 2 ∷ engine A 1
     ∷ engine B 1 ∷ engine B 2 ∷ engine B 3 ∷ engine B 4 ∷ engine B 5 ∷ engine B 6 ∷ engine B 7 ∷ engine B 8 ∷ engine B 9 ∷ engine B 10 ∷ engine B 11 ∷ engine B 12 ∷ []
 
@@ -67,7 +67,7 @@ twelve = figures 330 12 12 (Since 330) false 0 0 0 0
 
 -- so many vehicles counted where 24 stand
 abbrev counted : ℕ → Section
-counted n = record { vehicles = fullLine; len = n; force = true; refused = 0; a = twelve; b = twelve }
+counted n = record { vehicles = fullSection; len = n; force = true; refused = 0; a = twelve; b = twelve }
 
 -- ---- ill made
 

@@ -8,11 +8,11 @@ use Rattle.working.proofs.Clauses.{Shape}
 use Rattle.working.proofs.Every.{Every, every-at}
 use Rattle.working.proofs.Invariant.{Ahead, Clear, InRow, Opens, cons-nil, no-far, openers}
 use Rattle.working.proofs.Kept.{Good, kept-at}
-use Rattle.working.proofs.Line.{From, NotFrom, other-other}
+use Rattle.working.proofs.Vehicles.{From, NotFrom, other-other}
 use Rattle.working.proofs.Made.{other-sender}
 use Rattle.working.proofs.Sides.{every-seen, getD-reverse, length-seen, movesOf, ownMoves, seenFrom}
 use Rattle.working.proofs.Tests.{clash, or-second}
-use Rattle.working.specs.Sections.{lineOf, numberAt, otherAt, unused}
+use Rattle.working.specs.Sections.{vehiclesOf, numberAt, otherAt, unused}
 use Rattle.working.specs.WellMade.{all, isFrom, isOpener}
 use Rattle.working.specs.declared.Movement.{Movement}
 use Rattle.working.specs.declared.Section.{Section}
@@ -69,19 +69,19 @@ fast-away x v h e to =
 -- ---- seen from x
 
 -- of two vehicles, the one nearer x heading away and the other heading to x, the nearer is OPEN or THROUGH
-nearer-opener : (s : Section) → Good s → (x : Station) (i j : ℕ) → i < j → j < length (lineOf s)
-    → getD (seenFrom x (lineOf s)) i unused .heading ≡ numberAt (otherAt x) → getD (seenFrom x (lineOf s)) j unused .heading ≡ numberAt x
-    → isOpener (getD (seenFrom x (lineOf s)) i unused .movement) ≡ true
+nearer-opener : (s : Section) → Good s → (x : Station) (i j : ℕ) → i < j → j < length (vehiclesOf s)
+    → getD (seenFrom x (vehiclesOf s)) i unused .heading ≡ numberAt (otherAt x) → getD (seenFrom x (vehiclesOf s)) j unused .heading ≡ numberAt x
+    → isOpener (getD (seenFrom x (vehiclesOf s)) i unused .movement) ≡ true
 nearer-opener s g x i j less there away to = by (isOpener (getD l i unused .movement)) refl
   where
     l : List Vehicle
-    l = seenFrom x (lineOf s)
+    l = seenFrom x (vehiclesOf s)
 
-    len : length l ≡ length (lineOf s)
-    len = length-seen x (lineOf s)
+    len : length l ≡ length (vehiclesOf s)
+    len = length-seen x (vehiclesOf s)
 
-    shapes : (y : Station) → Every Shape (seenFrom y (lineOf s))
-    shapes y = every-seen Shape A y (lineOf s) (well-at s x (g .sound) .shape)
+    shapes : (y : Station) → Every Shape (seenFrom y (vehiclesOf s))
+    shapes y = every-seen Shape A y (vehiclesOf s) (well-at s x (g .sound) .shape)
 
     shape : (k : ℕ) → k < length l → Shape (getD l k unused)
     shape = every-at Shape unused l (shapes x)
@@ -96,19 +96,19 @@ nearer-opener s g x i j less there away to = by (isOpener (getD l i unused .move
         from : From x (getD l i unused)
         from = rw (other-other x) at (other-sender (otherAt x) (getD l i unused) near (fast-away (otherAt x) (getD l i unused) near e away))
 
-        by-clear : Clear (movesOf x (lineOf s)) (movesOf (otherAt x) (lineOf s)) → isOpener (getD l i unused .movement) ≡ true
+        by-clear : Clear (movesOf x (vehiclesOf s)) (movesOf (otherAt x) (vehiclesOf s)) → isOpener (getD l i unused .movement) ≡ true
         by-clear (openers all) = moves-have Opens x l all i (omega (arith, len)) from
         by-clear (no-far nil) =
-            let far = all-others (otherAt x) (seenFrom (otherAt x) (lineOf s)) (shapes (otherAt x)) nil in
-            let all-x : Every (From x) l = every-seen (From x) (otherAt x) x (lineOf s) (rw (other-other x) at far) in
+            let far = all-others (otherAt x) (seenFrom (otherAt x) (vehiclesOf s)) (shapes (otherAt x)) nil in
+            let all-x : Every (From x) l = every-seen (From x) (otherAt x) x (vehiclesOf s) (rw (other-other x) at far) in
             let fast-j = front x l all-x (kept-at x s g .own .row) i j less (omega (arith, len)) e in
             absurd (clash (every-at (From x) unused l all-x j (omega (arith, len))) (fast-away x (getD l j unused) (shape j (omega (arith, len))) fast-j to))
 
-pub opposed-openers : (s : Section) → Good s → (i j : ℕ) → i < j → j < length (lineOf s)
-    → getD (lineOf s) i unused .heading ≡ numberAt B → getD (lineOf s) j unused .heading ≡ numberAt A
-    → (isOpener (getD (lineOf s) i unused .movement) ≡ true) × (isOpener (getD (lineOf s) j unused .movement) ≡ true)
+pub opposed-openers : (s : Section) → Good s → (i j : ℕ) → i < j → j < length (vehiclesOf s)
+    → getD (vehiclesOf s) i unused .heading ≡ numberAt B → getD (vehiclesOf s) j unused .heading ≡ numberAt A
+    → (isOpener (getD (vehiclesOf s) i unused .movement) ≡ true) × (isOpener (getD (vehiclesOf s) j unused .movement) ≡ true)
 opposed-openers s g i j less there to-B to-A =
-    let at-i = getD-reverse (lineOf s) i (omega arith) in
-    let at-j = getD-reverse (lineOf s) j there in
-    let far = nearer-opener s g B (length (lineOf s) - suc j) (length (lineOf s) - suc i) (omega arith) (omega arith) (rw at-j to-A) (rw at-i to-B) in
+    let at-i = getD-reverse (vehiclesOf s) i (omega arith) in
+    let at-j = getD-reverse (vehiclesOf s) j there in
+    let far = nearer-opener s g B (length (vehiclesOf s) - suc j) (length (vehiclesOf s) - suc i) (omega arith) (omega arith) (rw at-j to-A) (rw at-i to-B) in
     (nearer-opener s g A i j less there to-B to-A, rw at-j at far)

@@ -100,11 +100,11 @@ unfolding step-computes
 guest-class-kept = (refl, refl)
 
 -- "MEET: .. both then head to the station given and are met": either station, and all else of the two as it was
-both-turn : (x : Station)
+both-redirected : (x : Station)
     → (vehicleAt (meeting x) 0 ≡ vehicle (Open 2) 1 1 (numberAt x) true 1) × (vehicleAt (meeting x) 1 ≡ vehicle (Open 1) 2 1 (numberAt x) true 1)
 unfolding step-computes
-both-turn A = (refl, refl)
-both-turn B = (refl, refl)
+both-redirected A = (refl, refl)
+both-redirected B = (refl, refl)
 
 -- "a log of no bytes has no entries"
 no-entries : turnsOf fresh [] ≡ []

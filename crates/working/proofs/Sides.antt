@@ -4,10 +4,10 @@
 use Prim.Native.Nat.{_+_, _-_, _<_, suc, zero, ℕ}
 use Rattle.working.proofs.Every.{Every, every-add}
 use Rattle.working.proofs.Invariant.{weigh, weigh-snoc}
-use Rattle.working.proofs.Line.{From, NotFrom, not-own}
+use Rattle.working.proofs.Vehicles.{From, NotFrom, not-own}
 use Rattle.working.specs.Demand3.{ofStation}
 use Rattle.working.specs.Sections.{insertAt, numberAt, otherAt, unused}
-use Rattle.working.specs.Steps.{turnAt}
+use Rattle.working.specs.Steps.{redirectAt}
 use Rattle.working.specs.WellMade.{isFrom, sumOver}
 use Rattle.working.specs.declared.Movement.{Movement}
 use Rattle.working.specs.declared.Station.the-variants.{A, B}
@@ -91,10 +91,10 @@ own-none : (x : Station) (l : List Vehicle) → Every (From (otherAt x)) l → o
 own-none x [] h = refl
 own-none x (v ∷ l) h = rw (not-own x v (h .0)) (own-none x l (h .1))
 
-own-turned : (n : ℕ) (z : Station) (i : ℕ) (l : List Vehicle) → ownMoves n (turnAt z i l) ≡ ownMoves n l
-own-turned n z i [] = refl
-own-turned n z zero (v ∷ l) = refl
-own-turned n z (suc i) (v ∷ l) = rw (own-turned n z i l)
+own-redirected : (n : ℕ) (z : Station) (i : ℕ) (l : List Vehicle) → ownMoves n (redirectAt z i l) ≡ ownMoves n l
+own-redirected n z i [] = refl
+own-redirected n z zero (v ∷ l) = refl
+own-redirected n z (suc i) (v ∷ l) = rw (own-redirected n z i l)
 
 own-reverse : (n : ℕ) (l : List Vehicle) → ownMoves n (reverse l) ≡ reverse (ownMoves n l)
 own-reverse n [] = refl
@@ -128,8 +128,8 @@ module _ (x : Station) (v : Vehicle) (l : List Vehicle) where
 pub moves-none : (x : Station) (l : List Vehicle) → Every (From (otherAt x)) l → movesOf x l ≡ []
 moves-none x l h = own-none x (seenFrom x l) (every-seen (From (otherAt x)) A x l h)
 
-pub moves-turned : (x z : Station) (i : ℕ) (l : List Vehicle) → movesOf x (turnAt z i l) ≡ movesOf x l
-moves-turned x z i l = own-seen (numberAt x) x (turnAt z i l) ∙ ap (seenFrom x) (own-turned (numberAt x) z i l) ∙ sym (own-seen (numberAt x) x l)
+pub moves-redirected : (x z : Station) (i : ℕ) (l : List Vehicle) → movesOf x (redirectAt z i l) ≡ movesOf x l
+moves-redirected x z i l = own-seen (numberAt x) x (redirectAt z i l) ∙ ap (seenFrom x) (own-redirected (numberAt x) z i l) ∙ sym (own-seen (numberAt x) x l)
 
 -- ---- figures of what a station's vehicles left on
 

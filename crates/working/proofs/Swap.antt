@@ -4,8 +4,8 @@
 -- Assumes nothing.
 use Prim.Native.Nat.{_+_, _<_, _≤_, ℕ}
 use Rattle.working.proofs.Changes.{Sound, named-there, sound-step, step-is, well-at}
-use Rattle.working.proofs.Line.{Nearest, insert-length, nearest, nearest-insert, remove-insert, remove-short}
-use Rattle.working.proofs.Made.{line-after, room-of}
+use Rattle.working.proofs.Vehicles.{Nearest, insert-length, nearest, nearest-insert, remove-insert, remove-short}
+use Rattle.working.proofs.Made.{vehicles-after, room-of}
 use Rattle.working.proofs.Plans.{Fate, arrives, departs, fate, refuses}
 use Rattle.working.proofs.Ranges.{ranged-of}
 use Rattle.working.proofs.Tests.{both, clash}
@@ -15,7 +15,7 @@ use Rattle.working.specs.Demand3.{ReceivesIt, isDeparture, isSome}
 use Rattle.working.specs.Effects.{Arrive, Depart, Plan, Refuse}
 use Rattle.working.specs.Events.{At, Says, decode}
 use Rattle.working.specs.Reasons.{isNamed}
-use Rattle.working.specs.Sections.{deskOf, insertAt, lineOf, nearestAt, numberAt, removeAt, withDesk, withLine}
+use Rattle.working.specs.Sections.{deskOf, insertAt, vehiclesOf, nearestAt, numberAt, removeAt, withDesk, withVehicles}
 use Rattle.working.specs.Steps.{doneBy, entered, onDecoded, planOf, stepOf}
 use Rattle.working.specs.Turns.{isAccepted}
 use Rattle.working.specs.declared.Answer.the-variants as answer
@@ -86,10 +86,10 @@ takes (Refuse r) = 0
 takes (Depart p) = 0
 takes (Arrive d) = 1
 
-abbrev lineBy : Station → Plan → List Vehicle → List Vehicle
-lineBy x (Refuse r) l = l
-lineBy x (Depart p) l = insertAt x (p .vehicle) l
-lineBy x (Arrive d) l = removeAt x l
+abbrev vehiclesBy : Station → Plan → List Vehicle → List Vehicle
+vehiclesBy x (Refuse r) l = l
+vehiclesBy x (Depart p) l = insertAt x (p .vehicle) l
+vehiclesBy x (Arrive d) l = removeAt x l
 
 abbrev deskBy : Plan → Desk → Desk
 deskBy (Refuse r) e = e
@@ -105,7 +105,7 @@ abbrev Accepts : Plan → Type 0
 Accepts p = isAccepted (answerBy p) ≡ true
 
 abbrev sectionBy : Section → Station → Plan → Section
-sectionBy s x p = withDesk (withLine s (lineBy x p (lineOf s))) x (deskBy p (deskOf s x))
+sectionBy s x p = withDesk (withVehicles s (vehiclesBy x p (vehiclesOf s))) x (deskBy p (deskOf s x))
 
 done-answer : (s : Section) (x : Station) (p : Plan) → doneBy s x p .answer ≡ answerBy p
 done-answer s x (Refuse r) = refl
@@ -118,26 +118,26 @@ done-section s x (Depart p) ok = refl
 done-section s x (Arrive d) ok = refl
 
 -- the other end is as it was
-near-by : {x y : Station} → Opposite x y → (p : Plan) (l : List Vehicle) → takes p + 1 ≤ length l → nearestAt y (lineBy x p l) ≡ nearestAt y l
+near-by : {x y : Station} → Opposite x y → (p : Plan) (l : List Vehicle) → takes p + 1 ≤ length l → nearestAt y (vehiclesBy x p l) ≡ nearestAt y l
 near-by o (Refuse r) l h = refl
 near-by o (Depart p) l h = near-inserted o (p .vehicle) l (omega arith)
 near-by o (Arrive d) l h = near-removed o l (omega arith)
 
-line-by : {x y : Station} → Opposite x y → (p q : Plan) (l : List Vehicle) → takes p + takes q ≤ length l
-    → lineBy y q (lineBy x p l) ≡ lineBy x p (lineBy y q l)
-line-by o (Refuse r) q l h = refl
-line-by o (Depart p) (Refuse r) l h = refl
-line-by o (Depart p) (Depart q) l h = sym (far-insert o (p .vehicle) (q .vehicle) l)
-line-by o (Depart p) (Arrive e) l h = remove-inserted o (p .vehicle) l (omega arith)
-line-by o (Arrive d) (Refuse r) l h = refl
-line-by o (Arrive d) (Depart q) l h = sym (remove-inserted (flip o) (q .vehicle) l (omega arith))
-line-by o (Arrive d) (Arrive e) l h = removed-both o l (omega arith)
+vehicles-by : {x y : Station} → Opposite x y → (p q : Plan) (l : List Vehicle) → takes p + takes q ≤ length l
+    → vehiclesBy y q (vehiclesBy x p l) ≡ vehiclesBy x p (vehiclesBy y q l)
+vehicles-by o (Refuse r) q l h = refl
+vehicles-by o (Depart p) (Refuse r) l h = refl
+vehicles-by o (Depart p) (Depart q) l h = sym (far-insert o (p .vehicle) (q .vehicle) l)
+vehicles-by o (Depart p) (Arrive e) l h = remove-inserted o (p .vehicle) l (omega arith)
+vehicles-by o (Arrive d) (Refuse r) l h = refl
+vehicles-by o (Arrive d) (Depart q) l h = sym (remove-inserted (flip o) (q .vehicle) l (omega arith))
+vehicles-by o (Arrive d) (Arrive e) l h = removed-both o l (omega arith)
 
 fits-by : (s : Section) (x : Station) → Sound s → {act : Act} {f : Bool} {t : ℕ} {v : Vehicle} {p : Plan} → Fate act x f (deskOf s x) t v p
-    → length (lineBy x p (lineOf s)) ≤ 24
+    → length (vehiclesBy x p (vehiclesOf s)) ≤ 24
 fits-by s x g (refuses r) = well-at s x g .fits
-fits-by s x g (departs {p} f k) = omega (arith, insert-length x (p .vehicle) (lineOf s), room-of (well-at s x g) (k .room))
-fits-by s x g (arrives y n is f named may) = omega (arith, remove-short x (lineOf s), well-at s x g .fits)
+fits-by s x g (departs {p} f k) = omega (arith, insert-length x (p .vehicle) (vehiclesOf s), room-of (well-at s x g) (k .room))
+fits-by s x g (arrives y n is f named may) = omega (arith, remove-short x (vehiclesOf s), well-at s x g .fits)
 
 -- ---- what a plan reads
 
@@ -177,7 +177,7 @@ just-sent x y z n v from named =
 
 -- so two that are accepted find enough vehicles on the line l, whichever goes first
 enough : (l : List Vehicle) {x y : Station} {act bct : Act} {f : Bool} {d e : Desk} {t u : ℕ} {p q : Plan}
-    → Fate act x f d t (nearestAt x l) p → Fate bct y f e u (nearestAt y (lineBy x p l)) q → Accepts p → Accepts q
+    → Fate act x f d t (nearestAt x l) p → Fate bct y f e u (nearestAt y (vehiclesBy x p l)) q → Accepts p → Accepts q
     → (ReceivesIt act x (answerBy p) bct → ⊥)
     → takes p + takes q ≤ length l
 enough l (refuses r) second ok-p ok-q apart = absurd (false≢true ok-p)
@@ -195,35 +195,35 @@ enough l {x} {y} (arrives z n is f named may) (arrives z₁ n₁ is₁ f₁ name
 -- ---- the two steps
 
 two-desks : {x y : Station} → Opposite x y → (s : Section) (d e : Desk) (l l₁ l₂ : List Vehicle)
-    → withDesk (withLine (withDesk (withLine s l₁) x d) l) y e ≡ withDesk (withLine (withDesk (withLine s l₂) y e) l) x d
+    → withDesk (withVehicles (withDesk (withVehicles s l₁) x d) l) y e ≡ withDesk (withVehicles (withDesk (withVehicles s l₂) y e) l) x d
 two-desks ab s d e l l₁ l₂ = refl
 two-desks ba s d e l l₁ l₂ = refl
 
-desk-far : {x y : Station} → Opposite x y → (s : Section) (d : Desk) (l : List Vehicle) → deskOf (withDesk (withLine s l) x d) y ≡ deskOf s y
+desk-far : {x y : Station} → Opposite x y → (s : Section) (d : Desk) (l : List Vehicle) → deskOf (withDesk (withVehicles s l) x d) y ≡ deskOf s y
 desk-far ab s d l = refl
 desk-far ba s d l = refl
 
-force-with : (s : Section) (x : Station) (d : Desk) (l : List Vehicle) → withDesk (withLine s l) x d .force ≡ s .force
+force-with : (s : Section) (x : Station) (d : Desk) (l : List Vehicle) → withDesk (withVehicles s l) x d .force ≡ s .force
 force-with s A d l = refl
 force-with s B d l = refl
 
 abbrev planAt : Section → Station → ℕ → Act → Plan
-planAt s x t act = planOf act x (s .force) (deskOf s x) t (nearestAt x (lineOf s))
+planAt s x t act = planOf act x (s .force) (deskOf s x) t (nearestAt x (vehiclesOf s))
 
 -- what the other station reads and does behind a plan
-module _ {x y : Station} (o : Opposite x y) (s : Section) (p : Plan) (fits : length (lineBy x p (lineOf s)) ≤ 24) where
-  plan-after : (t : ℕ) (act : Act) → planAt (sectionBy s x p) y t act ≡ planOf act y (s .force) (deskOf s y) t (nearestAt y (lineBy x p (lineOf s)))
+module _ {x y : Station} (o : Opposite x y) (s : Section) (p : Plan) (fits : length (vehiclesBy x p (vehiclesOf s)) ≤ 24) where
+  plan-after : (t : ℕ) (act : Act) → planAt (sectionBy s x p) y t act ≡ planOf act y (s .force) (deskOf s y) t (nearestAt y (vehiclesBy x p (vehiclesOf s)))
   plan-after t act =
       let d = deskBy p (deskOf s x) in
-      let l = lineBy x p (lineOf s) in
-      rw (force-with s x d l, desk-far o s d l, line-after s x d l fits)
+      let l = vehiclesBy x p (vehiclesOf s) in
+      rw (force-with s x d l, desk-far o s d l, vehicles-after s x d l fits)
 
   section-after : (q : Plan)
-      → sectionBy (sectionBy s x p) y q ≡ withDesk (withLine (sectionBy s x p) (lineBy y q (lineBy x p (lineOf s)))) y (deskBy q (deskOf s y))
+      → sectionBy (sectionBy s x p) y q ≡ withDesk (withVehicles (sectionBy s x p) (vehiclesBy y q (vehiclesBy x p (vehiclesOf s)))) y (deskBy q (deskOf s y))
   section-after q =
       let d = deskBy p (deskOf s x) in
-      let l = lineBy x p (lineOf s) in
-      ap₂ (λ (k : List Vehicle) (e : Desk). withDesk (withLine (sectionBy s x p) (lineBy y q k)) y (deskBy q e)) (line-after s x d l fits) (desk-far o s d l)
+      let l = vehiclesBy x p (vehiclesOf s) in
+      ap₂ (λ (k : List Vehicle) (e : Desk). withDesk (withVehicles (sectionBy s x p) (vehiclesBy y q k)) y (deskBy q e)) (vehicles-after s x d l fits) (desk-far o s d l)
 
 -- p of x and then q of y: q comes to the same where it goes first, p where it goes second, and so does the section
 record Exchange (s : Section) (x y : Station) (t u : ℕ) (act bct : Act) (p q : Plan) : Type 0 where
@@ -232,21 +232,21 @@ record Exchange (s : Section) (x y : Station) (t u : ℕ) (act bct : Act) (p q :
   end : sectionBy (sectionBy s x p) y q ≡ sectionBy (sectionBy s y q) x p
 
 exchange : (s : Section) → Sound s → {x y : Station} → Opposite x y → (t u : ℕ) (act bct : Act) (p q : Plan)
-    → p ≡ planAt s x t act → q ≡ planOf bct y (s .force) (deskOf s y) u (nearestAt y (lineBy x p (lineOf s)))
-    → Fate act x (s .force) (deskOf s x) t (nearestAt x (lineOf s)) p → Fate bct y (s .force) (deskOf s y) u (nearestAt y (lineBy x p (lineOf s))) q
+    → p ≡ planAt s x t act → q ≡ planOf bct y (s .force) (deskOf s y) u (nearestAt y (vehiclesBy x p (vehiclesOf s)))
+    → Fate act x (s .force) (deskOf s x) t (nearestAt x (vehiclesOf s)) p → Fate bct y (s .force) (deskOf s y) u (nearestAt y (vehiclesBy x p (vehiclesOf s))) q
     → Accepts p → Accepts q → (ReceivesIt act x (answerBy p) bct → ⊥) → Exchange s x y t u act bct p q
 exchange s g {x} {y} o t u act bct p q is-p is-q fate-p fate-q ok-p ok-q apart =
-    let l = lineOf s in
+    let l = vehiclesOf s in
     let there = enough l fate-p fate-q ok-p ok-q apart in
     let fits-p = fits-by s x g fate-p in
     let fits-q = fits-by s y g fate-q in
     record {
-      first = is-q ∙ plan-same bct y (s .force) (deskOf s y) u (nearestAt y (lineBy x p l)) (nearestAt y l)
+      first = is-q ∙ plan-same bct y (s .force) (deskOf s y) u (nearestAt y (vehiclesBy x p l)) (nearestAt y l)
           (λ receives. near-by o p l (omega (arith, there, takes-one fate-q ok-q receives)));
-      second = is-p ∙ plan-same act x (s .force) (deskOf s x) t (nearestAt x l) (nearestAt x (lineBy y q l))
+      second = is-p ∙ plan-same act x (s .force) (deskOf s x) t (nearestAt x l) (nearestAt x (vehiclesBy y q l))
           (λ receives. sym (near-by (flip o) q l (omega (arith, there, takes-one fate-p ok-p receives)))) ∙ sym (plan-after (flip o) s q fits-q t act);
-      end = section-after o s p fits-p q ∙ ap (λ (k : List Vehicle). withDesk (withLine (sectionBy s x p) k) y (deskBy q (deskOf s y))) (line-by o p q l there)
-          ∙ two-desks o s (deskBy p (deskOf s x)) (deskBy q (deskOf s y)) (lineBy x p (lineBy y q l)) (lineBy x p l) (lineBy y q l)
+      end = section-after o s p fits-p q ∙ ap (λ (k : List Vehicle). withDesk (withVehicles (sectionBy s x p) k) y (deskBy q (deskOf s y))) (vehicles-by o p q l there)
+          ∙ two-desks o s (deskBy p (deskOf s x)) (deskBy q (deskOf s y)) (vehiclesBy x p (vehiclesBy y q l)) (vehiclesBy x p l) (vehiclesBy y q l)
           ∙ sym (section-after (flip o) s q fits-q p);
     }
 
@@ -279,9 +279,9 @@ pub swapped : (s : Section) (b c : List ℕ) (x y : Station) (t u : ℕ) (act bc
     → (ReceivesIt act x (stepOf s b .answer) bct → ⊥) → Swapped s b c
 swapped s b c x y t u act bct o g says-b says-c ok-b ok-c apart =
     let p = planAt s x t act in
-    let q = planOf bct y (s .force) (deskOf s y) u (nearestAt y (lineBy x p (lineOf s))) in
-    let fate-p = fate act x (s .force) (deskOf s x) t (nearestAt x (lineOf s)) (ranged-of b (At x t act) says-b) (well-at s x g .own .bounds) in
-    let fate-q = fate bct y (s .force) (deskOf s y) u (nearestAt y (lineBy x p (lineOf s))) (ranged-of c (At y u bct) says-c) (well-at s y g .own .bounds) in
+    let q = planOf bct y (s .force) (deskOf s y) u (nearestAt y (vehiclesBy x p (vehiclesOf s))) in
+    let fate-p = fate act x (s .force) (deskOf s x) t (nearestAt x (vehiclesOf s)) (ranged-of b (At x t act) says-b) (well-at s x g .own .bounds) in
+    let fate-q = fate bct y (s .force) (deskOf s y) u (nearestAt y (vehiclesBy x p (vehiclesOf s))) (ranged-of c (At y u bct) says-c) (well-at s y g .own .bounds) in
     let first = acted s b x t act p g says-b refl in
     let ok-p : Accepts p = rw (first .answers) at ok-b in
     let s₁ = sectionBy s x p in

@@ -6,8 +6,8 @@ use Rattle.working.proofs.Changes.{Change, Sound, arrival, departure, e
 use Rattle.working.proofs.Clauses.{Numbered}
 use Rattle.working.proofs.Every.{Every, every-map}
 use Rattle.working.proofs.Invariant.{granted, trainOne, trains}
-use Rattle.working.proofs.Line.{eqb-sym, every-end, every-insert, every-turn, number-same}
-use Rattle.working.proofs.Made.{line-after, line-with}
+use Rattle.working.proofs.Vehicles.{eqb-sym, every-end, every-insert, every-turn, number-same}
+use Rattle.working.proofs.Made.{vehicles-after, vehicles-with}
 use Rattle.working.proofs.Plans.{Departs}
 use Rattle.working.proofs.Sides.{moves-weight, movesOf}
 use Rattle.working.specs.Acts.{Act}
@@ -16,8 +16,8 @@ use Rattle.working.specs.Departures.{Departure, Kind, departureBy, depar
 use Rattle.working.specs.Effects.{Departing, arriveDesk}
 use Rattle.working.specs.Events.{At, Bad, Begin, Decoded, Meet, Resume, Says, decode}
 use Rattle.working.specs.Runs.{Done}
-use Rattle.working.specs.Sections.{deskOf, insertAt, lineOf, numberAt}
-use Rattle.working.specs.Steps.{metAt, turnAt, turned}
+use Rattle.working.specs.Sections.{deskOf, insertAt, vehiclesOf, numberAt}
+use Rattle.working.specs.Steps.{metAt, redirectAt, redirected}
 use Rattle.working.specs.WellMade.{isOpener, oneIf, sumOver}
 use Rattle.working.specs.declared.Answer.the-variants.{Accepted, Refused}
 use Rattle.working.specs.declared.Refusal.{Refusal}
@@ -58,16 +58,16 @@ departure-snoc (k ∷ h) d v =
     ∙ later-assoc (ifOf v (departureBy (decode (d .bytes)) (d .answer))) (departureOf h v) (ifOf v (departureBy (decode (k .bytes)) (k .answer)))
 
 -- heading and met do not tell
-departure-turned : (h : List Done) (z : Station) (v : Vehicle) → departureOf h (turned z v) ≡ departureOf h v
-departure-turned [] z v = refl
-departure-turned (d ∷ h) z v = ap₂ laterOr (departure-turned h z v) (go (departureBy (decode (d .bytes)) (d .answer)))
+departure-redirected : (h : List Done) (z : Station) (v : Vehicle) → departureOf h (redirected z v) ≡ departureOf h v
+departure-redirected [] z v = refl
+departure-redirected (d ∷ h) z v = ap₂ laterOr (departure-redirected h z v) (go (departureBy (decode (d .bytes)) (d .answer)))
   where
-    go : (q : Option Departure) → ifOf (turned z v) q ≡ ifOf v q
+    go : (q : Option Departure) → ifOf (redirected z v) q ≡ ifOf v q
     go none = refl
     go (some p) = refl
 
-told-turned : (h : List Done) (z : Station) (v : Vehicle) → Told h v → Told h (turned z v)
-told-turned h z v t = record { by = t .by; is = departure-turned h z v ∙ t .is; kind = t .kind; slowly = t .slowly }
+told-redirected : (h : List Done) (z : Station) (v : Vehicle) → Told h v → Told h (redirected z v)
+told-redirected h z v t = record { by = t .by; is = departure-redirected h z v ∙ t .is; kind = t .kind; slowly = t .slowly }
 
 module _ (h : List Done) (d : Done) where
   -- the step's departure is not the vehicle's
@@ -110,33 +110,33 @@ refused-none (Says Resume) why = refl
 
 -- ---- every step keeps it
 
-told-depart : (h : List Done) (d : Done) (s : Section) → Sound s → Every (Told h) (lineOf s)
+told-depart : (h : List Done) (d : Done) (s : Section) → Sound s → Every (Told h) (vehiclesOf s)
     → (x : Station) (time : ℕ) (act : Act) (p : Departing) → Departs act x (deskOf s x) p
     → decode (d .bytes) ≡ Says (At x time act) → d .answer ≡ Accepted (p .vehicle .form) (p .order .forms) (p .order .speed)
-    → Every (Told (h ++ d ∷ [])) (insertAt x (p .vehicle) (lineOf s))
+    → Every (Told (h ++ d ∷ [])) (insertAt x (p .vehicle) (vehiclesOf s))
 told-depart h d s g told x time act p leaves q a =
     let v = p .vehicle in
     let this : Departure = record { station = x; kind = kindIn (v .movement); number = v .form; forms = p .order .forms; speed = p .order .speed } in
     let by : departureBy (decode (d .bytes)) (d .answer) ≡ some this = rw (q, a, leaves .kind) in
     let its : ifOf v (departureBy (decode (d .bytes)) (d .answer)) ≡ some this = rw (by, leaves .sender, number-same x, eq-eqb (v .form) (v .form) refl) in
-    every-insert (Told (h ++ d ∷ [])) x v (lineOf s)
+    every-insert (Told (h ++ d ∷ [])) x v (vehiclesOf s)
     (record { by = this; is = departure-snoc h d v ∙ ap (λ (k : Option Departure). laterOr k (departureOf h v)) its; kind = refl; slowly = leaves .slowly })
-    (one-more h d this (deskOf s x .last) by (leaves .form) (lineOf s) (well-at s x g .own .number) told)
+    (one-more h d this (deskOf s x .last) by (leaves .form) (vehiclesOf s) (well-at s x g .own .number) told)
 
 pub told-change : (h : List Done) (d : Done) (s : Section) (e : Decoded) (r : Stepped) → Sound s → Change s e r → decode (d .bytes) ≡ e
     → d .answer ≡ r .answer
-    → Every (Told h) (lineOf s) → Every (Told (h ++ d ∷ [])) (lineOf (r .section))
-told-change h d s e r g (refusal k why) q a t = none-more h d (ap (departureBy (decode (d .bytes))) a ∙ refused-none (decode (d .bytes)) why) (lineOf s) t
+    → Every (Told h) (vehiclesOf s) → Every (Told (h ++ d ∷ [])) (vehiclesOf (r .section))
+told-change h d s e r g (refusal k why) q a t = none-more h d (ap (departureBy (decode (d .bytes))) a ∙ refused-none (decode (d .bytes)) why) (vehiclesOf s) t
 told-change h d s e r g (emptying k force) q a t = tt
 told-change h d s e r g (departure x time act {p} f leaves w) q a t =
-    rw (line-after s x (p .desk) (insertAt x (p .vehicle) (lineOf s)) (w .fits)) (told-depart h d s g t x time act p leaves q a)
+    rw (vehicles-after s x (p .desk) (insertAt x (p .vehicle) (vehiclesOf s)) (w .fits)) (told-depart h d s g t x time act p leaves q a)
 told-change h d s e r g (arrival x time y n k f may w) q a t =
-    rw (line-after s x (arriveDesk x (deskOf s x) time (k .vehicle)) (k .others) (w .fits))
+    rw (vehicles-after s x (arriveDesk x (deskOf s x) time (k .vehicle)) (k .others) (w .fits))
     (none-more h d (rw q) (k .others) (every-end (Told h) x (k .vehicle) (k .others) (rw (k .line) at t) .0))
 told-change h d s e r g (meeting x y n i f w) q a t =
-    rw (line-with 24 (metAt x i (lineOf s)) (w .fits))
-    (none-more h d (rw q) (metAt x i (lineOf s))
-    (every-turn (Told h) x (told-turned h x) (suc i) (turnAt x i (lineOf s)) (every-turn (Told h) x (told-turned h x) i (lineOf s) t)))
+    rw (vehicles-with 24 (metAt x i (vehiclesOf s)) (w .fits))
+    (none-more h d (rw q) (metAt x i (vehiclesOf s))
+    (every-turn (Told h) x (told-redirected h x) (suc i) (redirectAt x i (vehiclesOf s)) (every-turn (Told h) x (told-redirected h x) i (vehiclesOf s) t)))
 
 -- ---- what the departures say of the line
 
@@ -144,8 +144,8 @@ pub trains-told : (h : List Done) (y : Station) (l : List Vehicle) → Every (To
     → sumOver (ofStation y (λ v. oneIf (leftOnTrain (departureOf h v)))) l ≡ trains (movesOf y l)
 trains-told h y l t = moves-weight y (λ v. oneIf (leftOnTrain (departureOf h v))) trainOne l (every-map (Told h) _ (λ v k. rw (k .is, k .kind)) l t)
 
-pub granted-line : (y : Station) (l : List Vehicle) → sumOver (ofStation y (λ v. grantedIn (v .movement))) l ≡ granted (movesOf y l)
-granted-line y l = moves-weight y (λ v. grantedIn (v .movement)) grantedIn l (alike l)
+pub granted-vehicles : (y : Station) (l : List Vehicle) → sumOver (ofStation y (λ v. grantedIn (v .movement))) l ≡ granted (movesOf y l)
+granted-vehicles y l = moves-weight y (λ v. grantedIn (v .movement)) grantedIn l (alike l)
   where
     alike : (l : List Vehicle) → Every (λ v. grantedIn (v .movement) ≡ grantedIn (v .movement)) l
     alike [] = tt

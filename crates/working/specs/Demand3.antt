@@ -5,7 +5,7 @@ use Rattle.working.specs.Acts.{Act}
 use Rattle.working.specs.Departures.{Departure, Kind, departureOf, kindIn, kindOf, leftOnTrain, leftSlowly}
 use Rattle.working.specs.Events.{At, Says, decode}
 use Rattle.working.specs.Runs.{Done, Run, results, resultsOf}
-use Rattle.working.specs.Sections.{deskOf, fresh, lineOf, numberAt, otherAt, unused}
+use Rattle.working.specs.Sections.{deskOf, fresh, vehiclesOf, numberAt, otherAt, unused}
 use Rattle.working.specs.Turns.{isAccepted}
 use Rattle.working.specs.WellMade.{isFrom, oneIf, sumOver}
 use Rattle.working.specs.declared.Answer.the-variants.{Accepted, Refused}
@@ -24,7 +24,7 @@ use mathlib.Core.Path.{_≡_}
 
 -- the vehicle at a place, counted from A
 abbrev pub vehicleAt : Section → ℕ → Vehicle
-vehicleAt s i = getD (lineOf s) i unused
+vehicleAt s i = getD (vehiclesOf s) i unused
 
 -- ---- line clears
 
@@ -34,7 +34,7 @@ ofStation x f v = cond (isFrom (numberAt x) v) (f v) 0
 
 -- "A station's trains are its vehicles that left on TRAIN."
 abbrev pub trainsOf : List Done → Section → Station → ℕ
-trainsOf l s x = sumOver (ofStation x (λ v. oneIf (leftOnTrain (departureOf l v)))) (lineOf s)
+trainsOf l s x = sumOver (ofStation x (λ v. oneIf (leftOnTrain (departureOf l v)))) (vehiclesOf s)
 
 abbrev pub grantedIn : Movement → ℕ
 grantedIn (Open asked) = 0
@@ -44,7 +44,7 @@ grantedIn (Train asked granted) = granted
 
 -- "Line clears on the way to a station are the granted carried by the other's vehicles in the section."
 abbrev pub onTheWayTo : Section → Station → ℕ
-onTheWayTo s x = sumOver (ofStation (otherAt x) (λ v. grantedIn (v .movement))) (lineOf s)
+onTheWayTo s x = sumOver (ofStation (otherAt x) (λ v. grantedIn (v .movement))) (vehiclesOf s)
 
 -- ---- neighbours
 

@@ -104,7 +104,7 @@ testsOf (acts.Return asked granted) x force d time v = departTests force d time 
 testsOf (acts.Train view asked granted) x force d time v = departTests force d time (trainTests d granted)
 testsOf (acts.Receive sender form) x force d time v = stationTests force d time ++ receiveTests x sender form v
 
--- the place of the vehicle named, or the length of the line where it is not present
+-- the place of the vehicle named, or how many there are where it is not present
 abbrev pub findOf : Station → ℕ → List Vehicle → ℕ
 findOf sender form [] = 0
 findOf sender form (v ∷ l) = cond (isNamed sender form v) 0 (suc (findOf sender form l))

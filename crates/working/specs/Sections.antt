@@ -35,11 +35,11 @@ padTo (suc n) [] = unused ∷ padTo n []
 padTo (suc n) (v ∷ l) = v ∷ padTo n l
 
 -- "up to 24 vehicles in order from A to B": the vehicles present, and the section with others in their place
-abbrev pub lineOf : Section → List Vehicle
-lineOf s = take (s .len) (s .vehicles)
+abbrev pub vehiclesOf : Section → List Vehicle
+vehiclesOf s = take (s .len) (s .vehicles)
 
-abbrev pub withLine : Section → List Vehicle → Section
-withLine s l = record { vehicles = padTo 24 l; len = length l; force = s .force; refused = s .refused; a = s .a; b = s .b }
+abbrev pub withVehicles : Section → List Vehicle → Section
+withVehicles s l = record { vehicles = padTo 24 l; len = length l; force = s .force; refused = s .refused; a = s .a; b = s .b }
 
 -- a vehicle enters at a station's end; the one there leaves; the one there, or the unused place where there is none
 abbrev pub insertAt : Station → Vehicle → List Vehicle → List Vehicle

@@ -1,11 +1,11 @@
--- The step on a section and bytes: a station decides by its own desk and the vehicle nearest it, and acts on that desk and at its own end of the line.
+-- The step on a section and bytes: a station decides by its own desk and the vehicle nearest it, and acts on that desk and at its own end of the section.
 use Prim.Native.Nat.{suc, zero, ℕ}
 use Rattle.working.specs.Acts.{Act}
 use Rattle.working.specs.Effects.{Arrive, Depart, Plan, Refuse, effectOf}
 use Rattle.working.specs.Events.{At, Bad, Begin, Decoded, Event, Meet, Resume, Says, decode}
 use Rattle.working.specs.Reasons.{beginTests, findOf, meetTests, resumeTests, testsOf}
 use Rattle.working.specs.Refusals.{firstOf}
-use Rattle.working.specs.Sections.{countRefusal, deskOf, emptied, insertAt, lineOf, nearestAt, numberAt, removeAt, withDesk, withLine}
+use Rattle.working.specs.Sections.{countRefusal, deskOf, emptied, insertAt, vehiclesOf, nearestAt, numberAt, removeAt, withDesk, withVehicles}
 use Rattle.working.specs.WellMade.{wellMade}
 use Rattle.working.specs.declared.Answer.the-variants as answer
 use Rattle.working.specs.declared.Desk.{Desk}
@@ -45,9 +45,9 @@ abbrev pub doneBy : Section → Station → Plan → Stepped
 doneBy s x (Refuse why) = refused s why
 doneBy s x (Depart p) = record {
   answer = answer.Accepted (p .vehicle .form) (p .order .forms) (p .order .speed);
-  section = withDesk (withLine s (insertAt x (p .vehicle) (lineOf s))) x (p .desk);
+  section = withDesk (withVehicles s (insertAt x (p .vehicle) (vehiclesOf s))) x (p .desk);
 }
-doneBy s x (Arrive d) = accepted (withDesk (withLine s (removeAt x (lineOf s))) x d)
+doneBy s x (Arrive d) = accepted (withDesk (withVehicles s (removeAt x (vehiclesOf s))) x d)
 
 -- ---- BEGIN, MEET and RESUME stand apart
 
@@ -55,26 +55,26 @@ abbrev pub settled : Section → Verdict → Section → Stepped
 settled s (Refused why) t = refused s why
 settled s Allowed t = accepted t
 
--- "both then head to the station given and are met": one of them, and the one at place i of a line
-abbrev pub turned : Station → Vehicle → Vehicle
-turned x v = record { movement = v .movement; sender = v .sender; form = v .form; heading = numberAt x; met = true; class = v .class }
+-- "both then head to the station given and are met": one of them, and the one at place i
+abbrev pub redirected : Station → Vehicle → Vehicle
+redirected x v = record { movement = v .movement; sender = v .sender; form = v .form; heading = numberAt x; met = true; class = v .class }
 
-abbrev pub turnAt : Station → ℕ → List Vehicle → List Vehicle
-turnAt x i [] = []
-turnAt x zero (v ∷ l) = turned x v ∷ l
-turnAt x (suc i) (v ∷ l) = v ∷ turnAt x i l
+abbrev pub redirectAt : Station → ℕ → List Vehicle → List Vehicle
+redirectAt x i [] = []
+redirectAt x zero (v ∷ l) = redirected x v ∷ l
+redirectAt x (suc i) (v ∷ l) = v ∷ redirectAt x i l
 
 -- "MEET: names the one of the pair nearer A"
 abbrev pub metAt : Station → ℕ → List Vehicle → List Vehicle
-metAt x i l = turnAt x (suc i) (turnAt x i l)
+metAt x i l = redirectAt x (suc i) (redirectAt x i l)
 
 -- ---- the step
 
 unfoldable pub entered : Section → Event → Stepped
 entered s Begin = settled s (firstOf (beginTests (s .force))) (emptied true (s .refused))
-entered s (At x time act) = doneBy s x (planOf act x (s .force) (deskOf s x) time (nearestAt x (lineOf s)))
+entered s (At x time act) = doneBy s x (planOf act x (s .force) (deskOf s x) time (nearestAt x (vehiclesOf s)))
 entered s (Meet x sender form) =
-    settled s (firstOf (meetTests (s .force) (lineOf s) (findOf sender form (lineOf s)))) (withLine s (metAt x (findOf sender form (lineOf s)) (lineOf s)))
+    settled s (firstOf (meetTests (s .force) (vehiclesOf s) (findOf sender form (vehiclesOf s)))) (withVehicles s (metAt x (findOf sender form (vehiclesOf s)) (vehiclesOf s)))
 entered s Resume = settled s (firstOf (resumeTests (s .force) (s .len))) (emptied false (s .refused))
 
 abbrev pub onDecoded : Section → Decoded → Stepped

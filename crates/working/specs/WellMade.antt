@@ -1,7 +1,7 @@
 -- Document 01, "The section": when a section is well made, clause by clause.
 use Prim.Native.Nat.{_+_, ℕ}
 use Rattle.working.specs.Entries.{every}
-use Rattle.working.specs.Sections.{deskOf, lineOf, numberAt}
+use Rattle.working.specs.Sections.{deskOf, vehiclesOf, numberAt}
 use Rattle.working.specs.declared.Desk.{Desk}
 use Rattle.working.specs.declared.Interval.the-variants.{Since, Stopped}
 use Rattle.working.specs.declared.Interval.{Interval}
@@ -18,7 +18,7 @@ use mathlib.Core.List.{List, [], _∷_}
 
 -- ---- the vehicles
 
--- a test holds of every vehicle of a line
+-- a test holds of every vehicle
 abbrev pub all : (Vehicle → Bool) → List Vehicle → Bool
 all p [] = true
 all p (v ∷ l) = p v && all p l
@@ -87,7 +87,7 @@ abbrev pub oneIf : Bool → ℕ
 oneIf true = 1
 oneIf false = 0
 
--- how many vehicles of a line station number n sent
+-- how many of the vehicles station number n sent
 abbrev pub countFrom : ℕ → List Vehicle → ℕ
 countFrom n l = sumOver (λ v. oneIf (isFrom n v)) l
 
@@ -115,7 +115,7 @@ deskTests n d l =
     ∷ []
 
 abbrev pub deskMade : Section → Station → Bool
-deskMade s x = every (deskTests (numberAt x) (deskOf s x) (lineOf s))
+deskMade s x = every (deskTests (numberAt x) (deskOf s x) (vehiclesOf s))
 
 -- ---- the section
 
@@ -134,9 +134,9 @@ abbrev pub madeTests : Section → List Bool
 madeTests s =
     leb (s .len) 24
     ∷ all isBlank (drop (s .len) (s .vehicles))
-    ∷ all shaped (lineOf s)
-    ∷ ordered (lineOf s)
-    ∷ differ (lineOf s)
+    ∷ all shaped (vehiclesOf s)
+    ∷ ordered (vehiclesOf s)
+    ∷ differ (vehiclesOf s)
     ∷ deskMade s A
     ∷ deskMade s B
     ∷ (s .force || isIdle s)

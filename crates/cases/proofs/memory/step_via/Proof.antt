@@ -1,5 +1,5 @@
--- `memory::step_via` meets its contract: a walk of its MIR, by hand. A copy of the section is lent by `&mut` to `step_in`, for a lifetime that is made for the call, and is taken back at its last value.
--- All that the proof knows of `step_in` is that it meets its contract.
+-- `memory::step_via` meets its contract: a walk of its MIR, by hand. A copy of the section is lent by `&mut` to `step_in_place`, for a lifetime that is made for the call, and is taken back at its last value.
+-- All that the proof knows of `step_in_place` is that it meets its contract.
 -- Assumes nothing.
 use mathlib.Core.Path.{_≡_, refl, ap, subst}
 use Prim.Native.Nat.{ℕ}
@@ -53,10 +53,10 @@ use Rattle.working.proofs.Stepped as R
 use Rattle.working.proofs.Stepped.Laws as R′
 use Rattle.working.proofs.Answer as N
 use Rattle.working.proofs.Answer.Laws as N′
-use Rattle.step.proofs.step_in as step-in
-use Rattle.step.proofs.step_in.Symbol as step-in-def
-use Rattle.step.proofs.step_in.Symbol.{name as #step-in}
-use Rattle.step.proofs.step_in.Met as step-in-thm
+use Rattle.step.proofs.step_in_place as step-in-place
+use Rattle.step.proofs.step_in_place.Symbol as step-in-place-def
+use Rattle.step.proofs.step_in_place.Symbol.{name as #step-in-place}
+use Rattle.step.proofs.step_in_place.Met as step-in-place-thm
 use Rattle.cases.proofs.memory.step_via.Key.{name as #step-via}
 use Rattle.cases.proofs.memory.step_via as step-via
 use Rattle.cases.proofs.memory.step_via.Statement as stated
@@ -80,8 +80,8 @@ tied : (r : Answer) (u : Val) → Is N.the-row r (u ∷ []) → Is N.the-row r (
 tied r u is = subst (Is N.the-row r) (EL.tells N.the-type N′.the-laws r (u ∷ []) is) is
 
 -- the contract that the proof cites
-abbrev StepIn : {M : Type 1} (𝓤 : URA M) (H : Heap 𝓤) (A : Atoms 𝓤) (mem : Memory → SProp 𝓤) (run : Routine → Fun 𝓤) → Contract 𝓤
-StepIn 𝓤 H A mem run = tripleOf 𝓤 H A step-in.signature (step-in.spec 𝓤 H A mem run)
+abbrev StepInPlace : {M : Type 1} (𝓤 : URA M) (H : Heap 𝓤) (A : Atoms 𝓤) (mem : Memory → SProp 𝓤) (run : Routine → Fun 𝓤) → Contract 𝓤
+StepInPlace 𝓤 H A mem run = tripleOf 𝓤 H A step-in-place.signature (step-in-place.spec 𝓤 H A mem run)
 
 module _ {M : Type 1} (𝓤 : URA M) (H : Heap 𝓤) (A : Atoms 𝓤) (W : Given 𝓤 H A) (at-mem : Memory → SProp 𝓤) (run : Routine → Fun 𝓤) (κ : Lft) (q : Share) (h : Section) (s : RefT (List ℕ)) where
   abbrev v : Val
@@ -111,10 +111,10 @@ module _ {M : Type 1} (𝓤 : URA M) (H : Heap 𝓤) (A : Atoms 𝓤) (W : Given
   abbrev x : ℕ → GName → RefT Section
   x l δ = record { ptr = (l, 0); name = δ; now = h }
 
-  abbrev to : ℕ → ℕ → GName → StepIn 𝓤 H A at-mem run .Ghost
+  abbrev to : ℕ → ℕ → GName → StepInPlace 𝓤 H A at-mem run .Ghost
   to l ν δ = (((ν ∷ [], (κ, tt)), (fullShare, (q, tt)), tt, (x l δ, (s, tt)), (vptr l 0 ∷ [], (v ∷ [], tt))), tt)
 
-  goes : (l ν : ℕ) (δ : GName) → ent 𝓤 (⋆ 𝓤 H A ((‵ (flft (ν ∷ []) fullShare) ⊛ ‵ (MutRef (named 0) (ν ∷ []) T.the-row .own (x l δ) (vptr l 0 ∷ []))) ∷ ‵ Own ∷ (‵ (flft κ q) ⊛ ‵ ftrue) ∷ [])) (StepIn 𝓤 H A at-mem run .pre (to l ν δ))
+  goes : (l ν : ℕ) (δ : GName) → ent 𝓤 (⋆ 𝓤 H A ((‵ (flft (ν ∷ []) fullShare) ⊛ ‵ (MutRef (named 0) (ν ∷ []) T.the-row .own (x l δ) (vptr l 0 ∷ []))) ∷ ‵ Own ∷ (‵ (flft κ q) ⊛ ‵ ftrue) ∷ [])) (StepInPlace 𝓤 H A at-mem run .pre (to l ν δ))
   goes l ν δ =
       qed W ((‵ (flft (ν ∷ []) fullShare) ⊛ ‵ (MutRef (named 0) (ν ∷ []) T.the-row .own (x l δ) (vptr l 0 ∷ []))) ∷ ‵ Own ∷ (‵ (flft κ q) ⊛ ‵ ftrue) ∷ []) ∵
       split ! $ nothing ! $ move ! (3 ∷ 0 ∷ []) $ fjoin ! $ move ! (2 ∷ 0 ∷ []) $ fjoin ! $ move ! (1 ∷ 2 ∷ []) $ join ! $ join ! $ frame ! $ done !
@@ -126,7 +126,7 @@ module _ {M : Type 1} (𝓤 : URA M) (H : Heap 𝓤) (A : Atoms 𝓤) (W : Given
       frame ! $ nothing ! $ move ! (1 ∷ 0 ∷ []) $ fjoin ! $ owned ! T.the-row (Is T.the-row) (LL.makes T.the-type T′.the-plain 𝓤 H A) h _ g $ fjoin ! $ frame ! $
       owned ! R.the-row (Is R.the-row) (LL.makes R.the-type R′.the-plain 𝓤 H A) r _ is $ done !
 
-  module _ (C : Calls 𝓤 H) (Λ : Loops 𝓤 H) (fm : FmC 𝓤 H (W .laws) C) (known : Triple 𝓤 (C #step-in) (StepIn 𝓤 H A at-mem run)) where
+  module _ (C : Calls 𝓤 H) (Λ : Loops 𝓤 H) (fm : FmC 𝓤 H (W .laws) C) (known : Triple 𝓤 (C #step-in-place) (StepInPlace 𝓤 H A at-mem run)) where
     walk : Is T.the-row h (val h ∷ []) → Is (ShrSlice (named 0) κ u8) s (v ∷ []) → ent 𝓤 (onEntry 𝓤 H A step-via.signature (κ, tt) (q, tt) (h, (s, tt)) vals) (WpFn 𝓤 H C Λ code.function (val h ∷ v ∷ []) Post)
     unfolding partOf
     walk g p =
@@ -141,11 +141,11 @@ module _ {M : Type 1} (𝓤 : URA M) (H : Heap 𝓤) (A : Atoms 𝓤) (W : Given
         move ! (8 ∷ []) $ use1 W (‵ (partAt T.the-row fullShare h l₃ 0)) (lays l₃ g) $ lft-new ! tt (λ ν. move ! (1 ∷ []) $
         use1 W (later (some (λ (δ : GName). ‵ (MutRef (named 0) (ν ∷ []) T.the-row .own (x l₃ δ) (vptr l₃ 0 ∷ [])) ⊛ ‵ (flent (ν ∷ []) (Body (mem T.the-row) l₃ 0 δ))))) (lends-ref 𝓤 H A W T.the-row (named 0) (ν ∷ []) h l₃ 0) $ await ! tt $ pick ! (λ δ. split ! $
         -- [what the reference owns; the lender's part; its token; Own; Own; _6; …; _5; …; _4; …; what frees _3; _2; …; _1; …; room for _0; …; bytes' token]
-        move ! (2 ∷ 0 ∷ 3 ∷ 18 ∷ []) $ join ! $ use3 W (raw (StepIn 𝓤 H A at-mem run .pre (to l₃ ν δ))) (goes l₃ ν δ) $
-        calls-at ! fm (StepIn 𝓤 H A at-mem run) known (to l₃ ν δ) (and-then ! (load ! (from ! (stop !)) (look ! 5 refl)) (and-then ! (load ! (from ! (stop !)) (look ! 10 refl)) (no-more !))) (λ u.
-        use1 W (later (some (λ (r : Answer). ((‵ (flft (ν ∷ []) fullShare) ⊛ ‵ (flft κ q) ⊛ ‵ ftrue) ⊛ ‵ (N.the-row .own r (u ∷ []))) ⊛ raw (ensured 𝓤 H A step-in.ended (step-in.clauses 𝓤 H A at-mem run) (ν ∷ [], (κ, tt)) (x l₃ δ, (s, tt)) tt r)))) (id⊢ 𝓤 _) $ await ! tt $ pick ! (λ r.
-        -- what `step_in` ensures, at some last section
-        split ! $ move ! (1 ∷ []) $ use1 W (some (λ (zs : Section × (Unit {0} × Unit {0})). ‵ (lasts step-in.ended (ν ∷ [], (κ, tt)) (x l₃ δ, (s, tt)) zs) ⊛ raw (fact 𝓤 ((r ≡ found .answer) × (zs .0 ≡ found .section))))) (id⊢ 𝓤 _) $ pick ! (λ zs.
+        move ! (2 ∷ 0 ∷ 3 ∷ 18 ∷ []) $ join ! $ use3 W (raw (StepInPlace 𝓤 H A at-mem run .pre (to l₃ ν δ))) (goes l₃ ν δ) $
+        calls-at ! fm (StepInPlace 𝓤 H A at-mem run) known (to l₃ ν δ) (and-then ! (load ! (from ! (stop !)) (look ! 5 refl)) (and-then ! (load ! (from ! (stop !)) (look ! 10 refl)) (no-more !))) (λ u.
+        use1 W (later (some (λ (r : Answer). ((‵ (flft (ν ∷ []) fullShare) ⊛ ‵ (flft κ q) ⊛ ‵ ftrue) ⊛ ‵ (N.the-row .own r (u ∷ []))) ⊛ raw (ensured 𝓤 H A step-in-place.ended (step-in-place.clauses 𝓤 H A at-mem run) (ν ∷ [], (κ, tt)) (x l₃ δ, (s, tt)) tt r)))) (id⊢ 𝓤 _) $ await ! tt $ pick ! (λ r.
+        -- what `step_in_place` ensures, at some last section
+        split ! $ move ! (1 ∷ []) $ use1 W (some (λ (zs : Section × (Unit {0} × Unit {0})). ‵ (lasts step-in-place.ended (ν ∷ [], (κ, tt)) (x l₃ δ, (s, tt)) zs) ⊛ raw (fact 𝓤 ((r ≡ found .answer) × (zs .0 ≡ found .section))))) (id⊢ 𝓤 _) $ pick ! (λ zs.
         split ! $ move ! (1 ∷ []) $ heard ! ((r ≡ found .answer) × (zs .0 ≡ found .section)) (λ e. fsplit ! $ move ! (2 ∷ []) $ split ! $ move ! (1 ∷ []) $
         -- [the answer; the tokens; the last value; …; the lender's part; Own; _6; …; _5; …; _4; …; what frees _3; _2; …; _1; …; room for _0; …]
         peeks ! N.the-row (Is N.the-row) (shows 𝓤 H A N.the-row) r (u ∷ []) (λ is.
@@ -166,11 +166,11 @@ module _ {M : Type 1} (𝓤 : URA M) (H : Heap 𝓤) (A : Atoms 𝓤) (W : Given
         keep ! (0 ∷ 2 ∷ []) $ by ! (exits made g is′ (λ i. record { answer = e .0 i; section = e .1 i }))))))))))))))))))
 
 module _ {M : Type 1} (𝓤 : URA M) (H : Heap 𝓤) (A : Atoms 𝓤) (W : Given 𝓤 H A) (mem : Memory → SProp 𝓤) (run : Routine → Fun 𝓤) where
-  step-via-walks : (C : Calls 𝓤 H) (Λ : Loops 𝓤 H) → FmC 𝓤 H (W .laws) C → Triple 𝓤 (C #step-in) (StepIn 𝓤 H A mem run) → Walks 𝓤 H A step-via.ended stayed (WpFn 𝓤 H C Λ code.function) (step-via.clauses 𝓤 H A mem run)
+  step-via-walks : (C : Calls 𝓤 H) (Λ : Loops 𝓤 H) → FmC 𝓤 H (W .laws) C → Triple 𝓤 (C #step-in-place) (StepInPlace 𝓤 H A mem run) → Walks 𝓤 H A step-via.ended stayed (WpFn 𝓤 H C Λ code.function) (step-via.clauses 𝓤 H A mem run)
   step-via-walks C Λ fm known = walked 𝓤 H A step-via.ended stayed (step-via.clauses 𝓤 H A mem run) (WpFn 𝓤 H C Λ code.function) (λ κs. (LL.vals T.the-type T′.the-laws, (slice-vals, tt))) (λ κs. (LL.tells T.the-type T′.the-laws, (shr-slice-tells (named 0) (κs .0) u8, tt)))
       (λ κs qs bounds a g are. via 𝓤 _ (fst∗ 𝓤 _ (emp 𝓤)) (walk 𝓤 H A W mem run (κs .0) (qs .0) (a .0) (a .1 .0) C Λ fm known (are .0) (are .1 .0)))
 
-step-via-meets : {M : Type 1} (𝓤 : URA M) (H : Heap 𝓤) (A : Atoms 𝓤) → Given 𝓤 H A → (mem : Memory → SProp 𝓤) (run : Routine → Fun 𝓤) (𝓣 : Tables 𝓤 H) → Triple 𝓤 (𝓣 .C #step-in) (StepIn 𝓤 H A mem run)
+step-via-meets : {M : Type 1} (𝓤 : URA M) (H : Heap 𝓤) (A : Atoms 𝓤) → Given 𝓤 H A → (mem : Memory → SProp 𝓤) (run : Routine → Fun 𝓤) (𝓣 : Tables 𝓤 H) → Triple 𝓤 (𝓣 .C #step-in-place) (StepInPlace 𝓤 H A mem run)
     → Meets 𝓤 H A step-via.signature (WpFn 𝓤 H (𝓣 .C) (𝓣 .Λ) code.function) (step-via.spec 𝓤 H A mem run)
 step-via-meets 𝓤 H A W mem run 𝓣 known =
     walk-meets 𝓤 H A step-via.ended stayed W (goes-none 𝓤 H A W 1 (λ _. T.the-row) yes (λ κs x f. refl), (goes-none-slice 𝓤 H A W 1 (0 ∷ []) tt (plain (λ _. u8)) yes, tt)) (step-via.clauses 𝓤 H A mem run)
@@ -182,4 +182,4 @@ step-via-spec 𝓤 H 𝓜 𝓖 𝓡 =
     entered 𝓤 H (tripleOf 𝓤 H (𝓖 .A) step-via.signature (step-via.spec 𝓤 H (𝓖 .A) (𝓜 .mem) (𝓡 .run)))
     (tables 𝓤 H 𝓜 𝓡 code.env .C) (tables 𝓤 H 𝓜 𝓡 code.env .Λ) #step-via code.function (code.unfolded 𝓤 H 𝓜 𝓡)
     (step-via-meets 𝓤 H (𝓖 .A) (givenOf 𝓤 H 𝓜 𝓖) (𝓜 .mem) (𝓡 .run) (tablesOf 𝓤 H 𝓜 (tables 𝓤 H 𝓜 𝓡 code.env))
-    (cited 𝓤 H (StepIn 𝓤 H (𝓖 .A) (𝓜 .mem) (𝓡 .run)) 𝓜 𝓡 code.env #step-in step-in-def.routine code.calls-step·step-in (step-in-thm.met 𝓤 H 𝓜 𝓖 𝓡)))
+    (cited 𝓤 H (StepInPlace 𝓤 H (𝓖 .A) (𝓜 .mem) (𝓡 .run)) 𝓜 𝓡 code.env #step-in-place step-in-place-def.routine code.calls-step·step-in-place (step-in-place-thm.met 𝓤 H 𝓜 𝓖 𝓡)))

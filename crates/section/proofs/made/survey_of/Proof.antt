@@ -12,10 +12,10 @@ use mathlib.Core.Path.{_≡_, refl}
 use native.Mathlib.Omega.{arith}
 
 abbrev Inv-loop : tie.InvT-loop
-Inv-loop len last-a last-b places line₀ i₀ line i = Pass (surveyOf last-a last-b) places 0 len i line
+Inv-loop len last-a last-b places survey₀ i₀ survey i = Pass (surveyOf last-a last-b) places 0 len i survey
 
 abbrev μ-loop : tie.MeasureT-loop
-μ-loop len last-a last-b places line₀ i₀ line i = i
+μ-loop len last-a last-b places survey₀ i₀ survey i = i
 
 loop-holds : tie.Need-loop-holds Inv-loop μ-loop
 loop-holds c = let a = c .args in begins (surveyOf (a .last-a) (a .last-b)) (a .t1) 0 (a .len) (search needs) (search needs) refl

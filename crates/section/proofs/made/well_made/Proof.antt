@@ -30,8 +30,8 @@ returns c =
     let survey = blank .before .before .before in
     let within = survey .before .before .before .before in
     let s = within .before .args .s in
-    let line = survey .survey-of .result in
-    joined (blank .blank-from .result) (line .shaped) (line .ordered) (forms .forms-differ .result)
+    let found = survey .survey-of .result in
+    joined (blank .blank-from .result) (found .shaped) (found .ordered) (forms .forms-differ .result)
     (desks .before .desk-made .result) (desks .desk-made2 .result) (s .force) (eqb (s .len) 0) (fresh .before .is-fresh .result) (fresh .is-fresh2 .result)
     ∙ rw (
       le-leb _ _ (within .if1 .left),

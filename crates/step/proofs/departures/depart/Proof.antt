@@ -1,12 +1,12 @@
 -- `departures::depart` meets its contract: the vehicle is put in at the station's end, and then the desk's figures.
 -- Assumes nothing.
 use Prim.Native.Nat.{_+_}
-use Rattle.step.proofs.Becoming.{line-and-desk}
+use Rattle.step.proofs.Becoming.{vehicles-and-desk}
 use Rattle.step.proofs.departures.depart.Statement.{statement}
 use Rattle.step.proofs.departures.depart.Tie as tie
 use Rattle.words.specs.Words.{sectionIn, withDeparture}
 use Rattle.working.specs.Effects.{nextForm}
-use Rattle.working.specs.Sections.{insertAt, lineOf}
+use Rattle.working.specs.Sections.{insertAt, vehiclesOf}
 use borrow.Author.Needs.{needs}
 use mathlib.Core.Path.{refl}
 use native.Mathlib.Omega.{arith}
@@ -34,7 +34,7 @@ returns c =
     let a = start .args in (
       refl,
       rw (← made .vehicle-for .ensures)
-          (line-and-desk (sectionIn (a .words .now)) (insertAt (a .at) (made .vehicle-for .result) (lineOf (sectionIn (a .words .now)))) (a .at)
+          (vehicles-and-desk (sectionIn (a .words .now)) (insertAt (a .at) (made .vehicle-for .result) (vehiclesOf (sectionIn (a .words .now)))) (a .at)
           (withDeparture (a .time) (nextForm (a .d)) (a .d .sent + 1)) (start .pre .0) (inserted .insert .ensures) (c .put-departure .ensures)),
     )
 

@@ -1,7 +1,7 @@
 -- `receipts::enter_receive` meets its contract: the tests are the definition's, and where none holds the vehicle is taken and the desk altered by it.
 -- Assumes nothing.
 use Prim.Native.Nat.{ℕ}
-use Rattle.step.proofs.Becoming.{act-done, act-refused, line-and-desk, line-desk-is, may-enter, receipt-tested}
+use Rattle.step.proofs.Becoming.{act-done, act-refused, vehicles-and-desk, vehicles-desk-is, may-enter, receipt-tested}
 use Rattle.step.proofs.receipts.enter_receive.Statement.{statement}
 use Rattle.step.proofs.receipts.enter_receive.Tie as tie
 use Rattle.words.specs.Words.{sectionIn}
@@ -11,7 +11,7 @@ use Rattle.working.specs.Effects.{arriveDesk}
 use Rattle.working.specs.Events.{stationOf}
 use Rattle.working.specs.Reasons.{receiveTests, testsOf}
 use Rattle.working.specs.Refusals.{firstOf}
-use Rattle.working.specs.Sections.{deskOf, lineOf, nearestAt, removeAt}
+use Rattle.working.specs.Sections.{deskOf, vehiclesOf, nearestAt, removeAt}
 use Rattle.working.specs.declared.Section.{Section}
 use Rattle.working.specs.declared.Station.{Station}
 use borrow.Author.Needs.{needs}
@@ -47,7 +47,7 @@ nearest-requires c κs = search needs
 in-force-requires : tie.Need-in-force-requires
 in-force-requires c κs = search needs
 
-verdict-is : (c : tie.After-act-verdict) → c .act-verdict .result ≡ firstOf (testsOf (act c) (x c) (s c .force) (deskOf (s c) (x c)) (time c) (nearestAt (x c) (lineOf (s c))))
+verdict-is : (c : tie.After-act-verdict) → c .act-verdict .result ≡ firstOf (testsOf (act c) (x c) (s c .force) (deskOf (s c) (x c)) (time c) (nearestAt (x c) (vehiclesOf (s c))))
 verdict-is c =
     let stations = desk-of c .before .before in
     receipt-tested (s c) (x c) (time c) _ _ (stations .before .station-of .ensures) (stations .station-of2 .ensures) (desk-of c .desk .ensures) (near-of c .nearest .ensures)
@@ -72,7 +72,7 @@ arrive-requires c κs =
     let at = sender .before .station-of .result in
     let v = near-of d .nearest .result in
     let own = d .before .before .before .receive-verdict in (
-      desk .ensures ∙ sym (line-desk-is (s d) (removeAt at (lineOf (s d))) at (removed .remove .ensures)),
+      desk .ensures ∙ sym (vehicles-desk-is (s d) (removeAt at (vehiclesOf (s d))) at (removed .remove .ensures)),
       may-enter (d .before .in-force .result) (desk .result) (time d) at (sender .station-of2 .result) (start-of d .args .e .number) v
           (sym (d .act-verdict .ensures (receiveTests at (sender .station-of2 .result) (start-of d .args .e .number) v) (own .ensures)) ∙ told .enum-told .given .1),
     )
@@ -88,7 +88,7 @@ returns-2 c =
     (record {
       answer = c .accepted .ensures;
       words = rw (← near-of d .nearest .ensures)
-          (line-and-desk (s d) (removeAt (at .result) (lineOf (s d))) (at .result) (λ e. arriveDesk (at .result) e (time d) (near-of d .nearest .result)) (desk-of d .desk .ensures) (removed .remove .ensures) (taken .arrive .ensures));
+          (vehicles-and-desk (s d) (removeAt (at .result) (vehiclesOf (s d))) (at .result) (λ e. arriveDesk (at .result) e (time d) (near-of d .nearest .result)) (desk-of d .desk .ensures) (removed .remove .ensures) (taken .arrive .ensures));
     })
 
 pub enter-receive-spec : {M : Type 1} → statement M

@@ -6,14 +6,14 @@ use Rattle.words.proofs.Keeping.{own-next}
 use Rattle.words.proofs.kept.line_words.Statement.{statement}
 use Rattle.words.proofs.kept.line_words.Tie as tie
 use Rattle.words.specs.Words.{OwnWords}
-use Rattle.working.specs.Sections.{emptied, withLine}
+use Rattle.working.specs.Sections.{emptied, withVehicles}
 use borrow.Author.Needs.{needs}
 use lib.ListN.{length, take}
 use mathlib.Core.Path.{_≡_}
 use native.Mathlib.Omega.{arith}
 
 abbrev Inv-loop : tie.InvT-loop
-Inv-loop force count len places present words₀ i₀ words i = (i ≤ present) × OwnWords words (withLine (emptied force count) (take i places))
+Inv-loop force count len places present words₀ i₀ words i = (i ≤ present) × OwnWords words (withVehicles (emptied force count) (take i places))
 
 abbrev μ-loop : tie.MeasureT-loop
 μ-loop force count len places present words₀ i₀ words i = present - i

@@ -1,0 +1,13 @@
+-- `figures::present` meets its contract: the word says so.
+-- Assumes nothing.
+use Rattle.words.proofs.desks.present.Statement.{statement}
+use Rattle.words.proofs.desks.present.Tie as tie
+use Rattle.words.specs.Words.{sectionIn}
+use borrow.Author.Needs.{needs}
+
+returns : tie.Need-returns
+unfolding sectionIn
+returns c = search needs
+
+pub present-spec : {M : Type 1} → statement M
+present-spec = tie.close (tie.spec (λ c. search needs) returns)

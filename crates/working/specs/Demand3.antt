@@ -65,7 +65,8 @@ isSome (some kind) = true
 abbrev pub isDeparture : Act → Bool
 isDeparture act = isSome (kindOf act)
 
--- "The second of two entries receives what the first sent where the first is a departure and the second a RECEIVE that names the first's station as sender and the form number in the first's answer."
+-- "The second of two entries receives what the first sent where the first is a departure and the second a RECEIVE that names the first's station as sender and the form
+-- number in the first's answer."
 abbrev pub ReceivesIt : Act → Station → Answer → Act → Type 0
 ReceivesIt first x answer second = (isDeparture first ≡ true) × (second ≡ acts.Receive x (formIn answer))
 

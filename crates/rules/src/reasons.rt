@@ -1,6 +1,6 @@
 // What each kind is refused for. Each function puts document 01's tests in rising order, and the first that holds is given. 7 and 9, which every act is put to
-// first, and 17 to 19, which every departure is put to last, are put around the tests of the kind.
-ghost use Rattle.working.specs.Reasons.{beginTests, departTests, isUnder, lastTests, mayEnter, openTests, receiveTests, resumeTests, returnTests, stationTests, trainTests};
+// first, and 17 to 19, which every departure is put to last, stand apart from the tests of the kind.
+ghost use Rattle.working.specs.Reasons.{beginTests, isUnder, lastTests, mayEnter, openTests, receiveTests, resumeTests, returnTests, stationTests, trainTests};
 ghost use Rattle.working.specs.Refusals.{Test, firstOf};
 ghost use mathlib.Core.List.{List, _++_};
 ghost use mathlib.Core.Path.{_≡_};
@@ -25,9 +25,9 @@ fn is_under(interval: Interval, time: u16) -> bool
     }
 }
 
-// 7 and 9, then what the act's own tests come to.
-pub fn act_verdict(force: bool, d: Desk, time: u16, own: Verdict) -> Verdict
-    ensures { λ r. ⌜ ((tests : List Test) → own ≡ firstOf tests → r ≡ firstOf (stationTests force d time ++ tests)) ⌝ }
+// 7 and 9, which every act of a station is put to first.
+pub fn station_verdict(force: bool, d: Desk, time: u16) -> Verdict
+    ensures { λ r. ⌜ r ≡ firstOf (stationTests force d time) ⌝ }
 {
     let clock = d.clock;
     if !force {
@@ -36,11 +36,11 @@ pub fn act_verdict(force: bool, d: Desk, time: u16, own: Verdict) -> Verdict
     if time < clock {
         return Verdict::Refused(Refusal::BeforeClock);
     }
-    own
+    Verdict::Allowed
 }
 
-// What the tests of its kind come to, then 17 to 19.
-fn last_verdict(d: Desk, time: u16, own: Verdict) -> Verdict
+// What a departure's own tests come to, then 17 to 19.
+pub fn departure_verdict(d: Desk, time: u16, own: Verdict) -> Verdict
     ensures { λ r. ⌜ ((tests : List Test) → own ≡ firstOf tests → r ≡ firstOf (tests ++ lastTests d time)) ⌝ }
 {
     let sent = d.sent;
@@ -59,13 +59,6 @@ fn last_verdict(d: Desk, time: u16, own: Verdict) -> Verdict
         return Verdict::Refused(Refusal::IntervalRunning);
     }
     Verdict::Allowed
-}
-
-// A departure's tests, of which those of its kind came to `own`.
-pub fn departure_verdict(force: bool, d: Desk, time: u16, own: Verdict) -> Verdict
-    ensures { λ r. ⌜ ((tests : List Test) → own ≡ firstOf tests → r ≡ firstOf (departTests force d time tests)) ⌝ }
-{
-    act_verdict(force, d, time, last_verdict(d, time, own))
 }
 
 // OPEN and THROUGH.

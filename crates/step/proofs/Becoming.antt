@@ -1,23 +1,27 @@
--- How the words of a section become those of the section after an act: one change of a desk after another is one change, and a plan that is refused or carried out is
--- what the definition has of its event.
+-- How the words of a section become those of the section after an entry: what its tests come to decides whether it is refused or carried out, and the changes of the
+-- line and of a desk, one after another, are those of the definition.
 -- Assumes nothing.
-use Prim.Native.Nat.{_-_, _<_, _≤_, ℕ}
-use Rattle.step.specs.Entering.{Does, Enters, Refuses, startAfter, startIfAnew}
-use Rattle.words.specs.Words.{Becomes, DeskBecomes, Met, sectionIn, startIn, withClears, withGuest, withOut, withReceipt, wordsOf}
-use Rattle.working.proofs.Reasons.{depart-passes, receive-passes}
-use Rattle.working.proofs.Tests.{none-holds}
+use Prim.Native.Nat.{_+_, _-_, _<_, ℕ}
+use Rattle.step.specs.Entering.{Does, Enters, Leaves, Refuses, startIfAnew}
+use Rattle.words.proofs.Becoming.{becomes-as, becomes-then, desk-length, desk-then}
+use Rattle.words.specs.Words.{Becomes, DeskBecomes, Met, VehiclesBecome, sectionIn, startIn, startOn, withClears, withDeparture, withGuest, withOut, withReceipt}
+use Rattle.working.proofs.Reasons.{last-passes}
+use Rattle.working.proofs.Scans.{first-passes, first-refuses}
+use Rattle.working.proofs.Tests.{none-holds, none-of-both}
+use Rattle.working.specs.Acts as acts
 use Rattle.working.specs.Acts.{Act}
-use Rattle.working.specs.Effects.{Plan, Refuse, broughtClears, effectOf, openedClears, otherDesk}
-use Rattle.working.specs.Events.{At, Begin, Event, Meet, Resume}
-use Rattle.working.specs.Reasons.{beginTests, departTests, findOf, mayEnter, mayMeet, receiveTests, resumeTests, stationTests, testsOf}
+use Rattle.working.specs.Effects.{Plan, broughtClears, effectOf, nextForm, openedClears, otherDesk, ownDesk, vehicleFor}
+use Rattle.working.specs.Events.{At, Begin, Event, Meet, Resume, stationOf}
+use Rattle.working.specs.Reasons.{beginTests, findOf, lastTests, mayMeet, openTests, receiveTests, resumeTests, returnTests, stationTests, testsOf, trainTests}
 use Rattle.working.specs.Refusals.{Test, firstOf}
-use Rattle.working.specs.Sections.{countRefusal, deskOf, emptied, vehiclesOf, nearestAt, withDesk, withVehicles}
-use Rattle.working.specs.Steps.{entered, metAt, planOf, settled}
+use Rattle.working.specs.Sections.{countRefusal, deskOf, emptied, insertAt, nearestAt, vehiclesOf, withDesk, withVehicles}
+use Rattle.working.specs.Steps.{entered, metAt, planOf, settled, unlessRefused}
 use Rattle.working.specs.declared.Answer.the-variants.{Accepted}
 use Rattle.working.specs.declared.Answer.{Answer}
 use Rattle.working.specs.declared.Clears.{Clears}
 use Rattle.working.specs.declared.Desk.{Desk}
-use Rattle.working.specs.declared.Movement.the-variants.{Open, Return, Train}
+use Rattle.working.specs.declared.Entry.{Entry}
+use Rattle.working.specs.declared.Movement.the-variants.{Open, Return, Through, Train}
 use Rattle.working.specs.declared.Movement.{Movement}
 use Rattle.working.specs.declared.Refusal.the-variants.{MayNotMeet, NotInForce}
 use Rattle.working.specs.declared.Refusal.{Refusal}
@@ -33,154 +37,193 @@ use mathlib.Core.List.{List, [], _++_, _∷_}
 use mathlib.Core.Path.{_∙_, _≡_, ap, ap₂, refl, subst, sym}
 use native.Mathlib.Omega.{arith}
 
--- ---- one change after another
-
-pub then : {w w₁ w₂ : List ℕ} {s t : Section} {k m : ℕ} → Becomes w w₁ s k → Becomes w₁ w₂ t m → (t .len ≤ 24 → s .len ≤ 24) → Becomes w w₂ t m
-then {w} {w₁} {s = s} {k = k} first next fits = record {
-  section = next .section;
-  start = next .start;
-  own = λ less own. next .own less (first .own (fits less) own ∙ sym (ap₂ wordsOf (first .section) (first .start)));
-}
-
-becomes : {w w₁ : List ℕ} {s t : Section} {k m : ℕ} → s ≡ t → k ≡ m → Becomes w w₁ s k → Becomes w w₁ t m
-becomes {w} {w₁} {t = t} {k = k} same there b = subst (λ (i : ℕ). Becomes w w₁ t i) there (subst (λ (u : Section). Becomes w w₁ u k) same b)
-
-same-desk : (s : Section) (x : Station) (d : Desk) (f : Desk → Desk) → withDesk (withDesk s x d) x (f (deskOf (withDesk s x d) x)) ≡ withDesk s x (f d)
-same-desk s A d f = refl
-same-desk s B d f = refl
-
-desk-length : (s : Section) (x : Station) (d e : Desk) → withDesk s x d .len ≡ withDesk s x e .len
-desk-length s A d e = refl
-desk-length s B d e = refl
-
--- a desk that became d is changed again
-pub and-desk : {w w₁ w₂ : List ℕ} (s : Section) (x : Station) (d : Desk) {k : ℕ} (f : Desk → Desk)
-    → Becomes w w₁ (withDesk s x d) k → DeskBecomes w₁ w₂ x f → Becomes w w₂ (withDesk s x (f d)) k
-and-desk {w} {w₁} {w₂} s x d {k} f first next =
-    let whole : withDesk (sectionIn w₁) x (f (deskOf (sectionIn w₁) x)) ≡ withDesk s x (f d) = ap (λ (t : Section). withDesk t x (f (deskOf t x))) (first .section) ∙ same-desk s x d f in
-    then first (becomes whole (first .start) next) (λ less. omega (arith, desk-length s x d (f d)))
+-- ---- a desk, and the line before it
 
 -- a desk that became d, by another name
-pub desk-is : {w w₁ : List ℕ} (s : Section) (x : Station) {d e : Desk} {k : ℕ} → d ≡ e → Becomes w w₁ (withDesk s x d) k → Becomes w w₁ (withDesk s x e) k
-desk-is s x same b = becomes (ap (withDesk s x) same) refl b
+pub desk-is : {w w₁ : List ℕ} (x : Station) {d e : Desk} → d ≡ e → Becomes w w₁ (withDesk (sectionIn w) x d) (startIn w) → Becomes w w₁ (withDesk (sectionIn w) x e) (startIn w)
+desk-is {w} x same b = becomes-as b (ap (withDesk (sectionIn w) x) same) refl
 
 vehicles-desk : (s : Section) (l : List Vehicle) (x : Station) → deskOf (withVehicles s l) x ≡ deskOf s x
 vehicles-desk s l A = refl
 vehicles-desk s l B = refl
 
-vehicles-length : (s : Section) (l : List Vehicle) (x : Station) (d : Desk) → withDesk (withVehicles s l) x d .len ≡ withVehicles s l .len
-vehicles-length s l A d = refl
-vehicles-length s l B d = refl
-
-pub vehicles-desk-is : {w w₁ : List ℕ} (s : Section) (l : List Vehicle) (x : Station) {k : ℕ} → Becomes w w₁ (withVehicles s l) k → deskOf (sectionIn w₁) x ≡ deskOf s x
-vehicles-desk-is s l x b = ap (λ (t : Section). deskOf t x) (b .section) ∙ vehicles-desk s l x
+pub desk-behind : {w w₁ : List ℕ} (x : Station) (f : List Vehicle → List Vehicle) (start : ℕ → ℕ) → VehiclesBecome w w₁ f start → deskOf (sectionIn w₁) x ≡ deskOf (sectionIn w) x
+desk-behind {w} x f start line = ap (λ (t : Section). deskOf t x) (line .section) ∙ vehicles-desk (sectionIn w) (f (vehiclesOf (sectionIn w))) x
 
 -- the line is changed, and then a desk, which was d
-pub vehicles-and-desk : {w w₁ w₂ : List ℕ} (s : Section) (l : List Vehicle) (x : Station) {d : Desk} {k : ℕ} (f : Desk → Desk) → d ≡ deskOf s x
-    → Becomes w w₁ (withVehicles s l) k → DeskBecomes w₁ w₂ x f → Becomes w w₂ (withDesk (withVehicles s l) x (f d)) k
-vehicles-and-desk {w} {w₁} {w₂} s l x {d} {k} f was first next =
-    let whole : withDesk (sectionIn w₁) x (f (deskOf (sectionIn w₁) x)) ≡ withDesk (withVehicles s l) x (f d) =
-    ap (λ (t : Section). withDesk t x (f (deskOf t x))) (first .section) ∙ ap (λ (e : Desk). withDesk (withVehicles s l) x (f e)) (vehicles-desk s l x ∙ sym was) in
-    then first (becomes whole (first .start) next) (λ less. omega (arith, vehicles-length s l x (f d)))
+pub line-and-desk : {w w₁ w₂ : List ℕ} (x : Station) (f : List Vehicle → List Vehicle) (start : ℕ → ℕ) (g : Desk → Desk) {d : Desk} → d ≡ deskOf (sectionIn w) x
+    → VehiclesBecome w w₁ f start → DeskBecomes w₁ w₂ x g → Becomes w w₂ (withDesk (withVehicles (sectionIn w) (f (vehiclesOf (sectionIn w)))) x (g d)) (start (startIn w))
+line-and-desk {w} {w₁} x f start g {d} was line desk =
+    let t = withVehicles (sectionIn w) (f (vehiclesOf (sectionIn w))) in
+    let whole : withDesk (sectionIn w₁) x (g (deskOf (sectionIn w₁) x)) ≡ withDesk t x (g d) =
+    ap₂ (λ (u : Section) (e : Desk). withDesk u x (g e)) (line .section) (desk-behind x f start line ∙ sym was) in
+    becomes-as (becomes-then line (becomes-as desk whole refl) (λ few. omega (arith, desk-length t x (g d)))) refl (line .start)
 
 -- ---- a station's act
 
-module _ (w w₁ : List ℕ) (x : Station) (time : ℕ) (act : Act) {given : Answer} where
-  enters-by : (p : Plan) → planOf act x (sectionIn w .force) (deskOf (sectionIn w) x) time (nearestAt x (vehiclesOf (sectionIn w))) ≡ p → Does w x p given w₁ → Enters w (At x time act) given w₁
+-- an act's own tests, behind 7 and 9
+abbrev pub ownTests : Act → Station → Desk → ℕ → Vehicle → List Test
+ownTests (acts.Open view class asked) x d time v = openTests d ++ lastTests d time
+ownTests (acts.Through view) x d time v = openTests d ++ lastTests d time
+ownTests (acts.Return asked granted) x d time v = returnTests d granted ++ lastTests d time
+ownTests (acts.Train view asked granted) x d time v = trainTests d granted ++ lastTests d time
+ownTests (acts.Receive sender form) x d time v = receiveTests x sender form v
+
+tests-are : (act : Act) (x : Station) (force : Bool) (d : Desk) (time : ℕ) (v : Vehicle) → testsOf act x force d time v ≡ stationTests force d time ++ ownTests act x d time v
+tests-are (acts.Open view class asked) x force d time v = refl
+tests-are (acts.Through view) x force d time v = refl
+tests-are (acts.Return asked granted) x force d time v = refl
+tests-are (acts.Train view asked granted) x force d time v = refl
+tests-are (acts.Receive sender form) x force d time v = refl
+
+-- what the code looks at first, by its own names: the station, its desk, whether the working is in force, and what 7 and 9 come to
+pub record Looked (w : List ℕ) (e : Entry) : Type 0 where
+  pub at : Station
+  pub desk : Desk
+  pub force : Bool
+  pub verdict : Verdict
+  pub at-is : at ≡ stationOf (e .station)
+  pub desk-is : desk ≡ deskOf (sectionIn w) at
+  pub force-is : force ≡ sectionIn w .force
+  pub verdict-is : verdict ≡ firstOf (stationTests force desk (e .time))
+
+abbrev pub look : {w : List ℕ} {e : Entry} {x : Station} {d : Desk} {f : Bool} {v : Verdict} → x ≡ stationOf (e .station) → d ≡ deskOf (sectionIn w) x
+    → f ≡ sectionIn w .force → v ≡ firstOf (stationTests f d (e .time)) → Looked w e
+look at desk force verdict = record { at = _; desk = _; force = _; verdict = _; at-is = at; desk-is = desk; force-is = force; verdict-is = verdict }
+
+-- 7 and 9, an act's own tests and its effect, of what was looked at
+module _ {w : List ℕ} {e : Entry} where
+  abbrev pub stationBy : Looked w e → List Test
+  stationBy l = stationTests (l .force) (l .desk) (e .time)
+
+  abbrev pub ownBy : Looked w e → Act → List Test
+  ownBy l act = ownTests act (l .at) (l .desk) (e .time) (nearestAt (l .at) (vehiclesOf (sectionIn w)))
+
+  abbrev pub effectBy : Looked w e → Act → Plan
+  effectBy l act = effectOf act (l .at) (l .desk) (e .time) (nearestAt (l .at) (vehiclesOf (sectionIn w)))
+
+-- where 7 and 9 let the act pass: what its own tests come to
+pub record Passed (w : List ℕ) (e : Entry) (act : Act) : Type 0 where
+  pub looked : Looked w e
+  pub allowed : looked .verdict ≡ Allowed
+  pub own : Verdict
+  pub own-is : own ≡ firstOf (ownBy looked act)
+
+abbrev pub pass : {w : List ℕ} {e : Entry} {act : Act} (l : Looked w e) {v : Verdict} → l .verdict ≡ Allowed → v ≡ firstOf (ownBy l act) → Passed w e act
+pass l allowed own = record { looked = l; allowed = allowed; own = _; own-is = own }
+
+-- 7 and 9 pass, so its own tests decide
+decides : {w : List ℕ} {e : Entry} {act : Act} (p : Passed w e act) → firstOf (stationBy (p .looked) ++ ownBy (p .looked) act) ≡ p .own
+decides {act = act} p = first-passes (stationBy (p .looked)) (ownBy (p .looked) act) (sym (p .looked .verdict-is) ∙ p .allowed) ∙ sym (p .own-is)
+
+abbrev eventBy : Entry → Act → Event
+eventBy e act = At (stationOf (e .station)) (e .time) act
+
+module _ {w w₁ : List ℕ} {e : Entry} {act : Act} {given : Answer} where
+  -- the act comes to a plan by what all its tests come to, and the code's names are the definition's
+  enters-by : (l : Looked w e) (v : Verdict) → firstOf (stationBy l ++ ownBy l act) ≡ v → Does w (l .at) (unlessRefused v (effectBy l act)) given w₁
+      → Enters w (eventBy e act) given w₁
   unfolding entered
-  enters-by p is does = record { answer = rw is (does .answer); words = rw is (does .words) }
+  enters-by l v is does =
+      let s = sectionIn w in
+      let x = l .at in
+      let plan : Station → Bool → Desk → Plan = λ z force d. planOf act z force d (e .time) (nearestAt z (vehiclesOf s)) in
+      let code : Does w x (plan x (l .force) (l .desk)) given w₁ = rw (tests-are, is) does in
+      let forced : Does w x (plan x (s .force) (l .desk)) given w₁ = subst (λ (f : Bool). Does w x (plan x f (l .desk)) given w₁) (l .force-is) code in
+      let desked : Does w x (plan x (s .force) (deskOf s x)) given w₁ = subst (λ (d : Desk). Does w x (plan x (s .force) d) given w₁) (l .desk-is) forced in
+      let named = subst (λ (z : Station). Does w z (plan z (s .force) (deskOf s z)) given w₁) (l .at-is) desked in
+      record { answer = named .answer; words = named .words }
 
-  -- refused by the first of its tests that holds
-  pub act-refused : {why : Refusal} → firstOf (testsOf act x (sectionIn w .force) (deskOf (sectionIn w) x) time (nearestAt x (vehiclesOf (sectionIn w)))) ≡ Refused why
-      → Refuses w why given w₁ → Enters w (At x time act) given w₁
-  act-refused {why} is refuses = enters-by (Refuse why) (rw is) (record { answer = refuses .answer; words = refuses .words })
+  refused-by : (l : Looked w e) {why : Refusal} → firstOf (stationBy l ++ ownBy l act) ≡ Refused why → Refuses w why given w₁ → Enters w (eventBy e act) given w₁
+  refused-by l {why} is refuses = enters-by l (Refused why) is (record { answer = refuses .answer; words = refuses .words })
 
-  -- or carried out
-  pub act-allowed : firstOf (testsOf act x (sectionIn w .force) (deskOf (sectionIn w) x) time (nearestAt x (vehiclesOf (sectionIn w)))) ≡ Allowed
-      → Does w x (effectOf act x (deskOf (sectionIn w) x) time (nearestAt x (vehiclesOf (sectionIn w)))) given w₁ → Enters w (At x time act) given w₁
-  act-allowed is does = enters-by (effectOf act x (deskOf (sectionIn w) x) time (nearestAt x (vehiclesOf (sectionIn w)))) (rw is) does
+  -- refused with 7 or 9
+  pub first-refused : (l : Looked w e) {why : Refusal} → l .verdict ≡ Refused why → Refuses w why given w₁ → Enters w (eventBy e act) given w₁
+  first-refused l is = refused-by l (first-refuses (stationBy l) (ownBy l act) (sym (l .verdict-is) ∙ is))
 
--- the same where the code has the station and its desk by other names
-pub act-done : (w : List ℕ) {w₁ : List ℕ} (x : Station) (time : ℕ) (act : Act) {given : Answer} {y : Station} {d : Desk} → y ≡ x → d ≡ deskOf (sectionIn w) y
-    → firstOf (testsOf act x (sectionIn w .force) (deskOf (sectionIn w) x) time (nearestAt x (vehiclesOf (sectionIn w)))) ≡ Allowed
-    → Does w y (effectOf act y d time (nearestAt y (vehiclesOf (sectionIn w)))) given w₁ → Enters w (At x time act) given w₁
-act-done w {w₁} x time act {given} {y} at desk allowed does =
-    let near : Station → Vehicle = λ z. nearestAt z (vehiclesOf (sectionIn w)) in
-    act-allowed w w₁ x time act allowed
-    (subst (λ (z : Station). Does w z (effectOf act z (deskOf (sectionIn w) z) time (near z)) given w₁) at
-    (subst (λ (e : Desk). Does w y (effectOf act y e time (near y)) given w₁) desk does))
+  -- or by its own tests, or carried out
+  pub own-refused : (p : Passed w e act) {why : Refusal} → p .own ≡ Refused why → Refuses w why given w₁ → Enters w (eventBy e act) given w₁
+  own-refused p is = refused-by (p .looked) (decides p ∙ is)
 
--- a departure's tests, of which those of its kind are `tests`, come to what the code found
-pub departure-tested : (s : Section) (x : Station) (time : ℕ) (tests : Desk → List Test) {y : Station} {d : Desk} {f : Bool} {own r : Verdict}
-    → y ≡ x → d ≡ deskOf s y → f ≡ s .force → own ≡ firstOf (tests d) → ((ts : List Test) → own ≡ firstOf ts → r ≡ firstOf (departTests f d time ts))
-    → r ≡ firstOf (departTests (s .force) (deskOf s x) time (tests (deskOf s x)))
-departure-tested s x time tests {d = d} at desk force own whole =
-    whole (tests d) own ∙ ap₂ (λ (f : Bool) (e : Desk). firstOf (departTests f e time (tests e))) force (desk ∙ ap (deskOf s) at)
+  pub act-done : (p : Passed w e act) → p .own ≡ Allowed → Does w (p .looked .at) (effectBy (p .looked) act) given w₁ → Enters w (eventBy e act) given w₁
+  act-done p is = enters-by (p .looked) Allowed (decides p ∙ is)
 
--- the same of a receipt, of the vehicle v
-pub receipt-tested : (s : Section) (x : Station) (time : ℕ) (sender : Station) (form : ℕ) {y z : Station} {d : Desk} {v : Vehicle} {f : Bool} {own r : Verdict}
-    → y ≡ x → z ≡ sender → d ≡ deskOf s y → v ≡ nearestAt y (vehiclesOf s) → f ≡ s .force → own ≡ firstOf (receiveTests y z form v)
-    → ((ts : List Test) → own ≡ firstOf ts → r ≡ firstOf (stationTests f d time ++ ts))
-    → r ≡ firstOf (stationTests (s .force) (deskOf s x) time ++ receiveTests x sender form (nearestAt x (vehiclesOf s)))
-receipt-tested s x time sender form {y} {z} {d} {v} {f} at from desk near force own whole = whole (receiveTests y z form v) own ∙ by
-  where
-    by : firstOf (stationTests f d time ++ receiveTests y z form v) ≡ firstOf (stationTests (s .force) (deskOf s x) time ++ receiveTests x sender form (nearestAt x (vehiclesOf s)))
-    by = rw (force, desk, near, at, from)
+-- a departure that no test refuses has a form number left, and room for one more sent
+pub may-leave : {w : List ℕ} {e : Entry} {act : Act} (p : Passed w e act) (tests : List Test) → let l = p .looked in
+    ownBy l act ≡ tests ++ lastTests (l .desk) (e .time) → p .own ≡ Allowed → (l .desk ≡ deskOf (sectionIn w) (l .at)) × (l .desk .last < 9999) × (l .desk .sent < 12)
+may-leave {e = e} p tests are is =
+    let last = lastTests (p .looked .desk) (e .time) in
+    let none = none-holds (tests ++ last) (ap firstOf (sym are) ∙ sym (p .own-is) ∙ is) in
+    let passes = last-passes (p .looked .desk) (e .time) (none-of-both tests last none .1) in
+    (p .looked .desk-is, passes .unused, passes .room)
 
--- a vehicle that no test refuses may enter
-pub may-enter : (force : Bool) (d : Desk) (time : ℕ) (x sender : Station) (form : ℕ) (v : Vehicle)
-    → firstOf (stationTests force d time ++ receiveTests x sender form v) ≡ Allowed → mayEnter x v ≡ true
-may-enter force d time x sender form v passed =
-    receive-passes force d time x sender form v (none-holds (stationTests force d time ++ receiveTests x sender form v) passed) .enters
+-- a vehicle is put in, and then the figures
+pub leaves : {w u w₁ : List ℕ} {x : Station} {time : ℕ} {d : Desk} {movement : Movement} {class : ℕ} {v : Vehicle} → v ≡ vehicleFor x (nextForm d) movement class
+    → VehiclesBecome w u (insertAt x v) (λ start. startOn x start 31) → DeskBecomes u w₁ x (withDeparture time (nextForm d) (d .sent + 1)) → Leaves w x time d movement class w₁
+leaves {u = u} is line desk = record { between = u; vehicle = rw (← is) line; figures = desk }
 
--- what a vehicle from the other station brings, put figure by figure, is the definition's desk, by what it left on
-module _ {d e : Desk} {time : ℕ} (class : ℕ) {m : Movement} {brought : Clears} (was : d ≡ e) where
-  pub other-open : {asked : ℕ} → m ≡ Open asked → brought ≡ openedClears (d .clears) asked
+-- it has left, and then the kind changes figures of its own
+module _ {w w₁ : List ℕ} {e : Entry} (l : Looked w e) {movement : Movement} {class : ℕ} (left : Leaves w (l .at) (e .time) (l .desk) movement class w₁) where
+  abbrev inserted : List Vehicle → List Vehicle
+  inserted = insertAt (l .at) (vehicleFor (l .at) (nextForm (l .desk)) movement class)
+
+  abbrev figures : Desk → Desk
+  figures = withDeparture (e .time) (nextForm (l .desk)) (l .desk .sent + 1)
+
+  pub has-left : Becomes w w₁ (withDesk (withVehicles (sectionIn w) (inserted (vehiclesOf (sectionIn w)))) (l .at) (figures (l .desk))) (startOn (l .at) (startIn w) 31)
+  has-left = line-and-desk (l .at) inserted (λ start. startOn (l .at) start 31) figures (l .desk-is) (left .vehicle) (left .figures)
+
+  pub left-with : {w₂ : List ℕ} (g : Desk → Desk) → DeskBecomes w₁ w₂ (l .at) g
+      → Becomes w w₂ (withDesk (withVehicles (sectionIn w) (inserted (vehiclesOf (sectionIn w)))) (l .at) (g (figures (l .desk)))) (startOn (l .at) (startIn w) 31)
+  left-with g desk =
+      line-and-desk (l .at) inserted (λ start. startOn (l .at) start 31) (λ d. g (figures d)) (l .desk-is) (left .vehicle) (desk-then (l .at) figures g (left .figures) desk)
+
+-- what a receipt puts, figure by figure, is the definition's desk, by whose vehicle it is and what it left on
+module _ {d e : Desk} {time : ℕ} {m : Movement} (was : d ≡ e) where
+  pub own-open : {asked sent : ℕ} → m ≡ Open asked → sent ≡ d .sent - 1 → withOut false (withReceipt time sent e) ≡ ownDesk e time m
+  own-open left less = rw (left, less, was)
+
+  pub own-through : {sent : ℕ} → m ≡ Through → sent ≡ d .sent - 1 → withReceipt time sent e ≡ ownDesk e time m
+  own-through left less = rw (left, less, was)
+
+  pub other-open : (class : ℕ) {asked : ℕ} {brought : Clears} → m ≡ Open asked → brought ≡ openedClears (d .clears) asked
       → withClears brought (withGuest class (withReceipt time 0 e)) ≡ otherDesk e time class m
-  other-open left is = rw (left, is, was)
+  other-open class left is = rw (left, is, was)
 
-  pub other-return : {asked granted : ℕ} → m ≡ Return asked granted → brought ≡ broughtClears (d .clears) asked granted (d .clears .owes)
+  pub other-return : (class : ℕ) {asked granted : ℕ} {brought : Clears} → m ≡ Return asked granted → brought ≡ broughtClears (d .clears) asked granted (d .clears .owes)
       → withClears brought (withOut false (withReceipt time 0 e)) ≡ otherDesk e time class m
-  other-return left is = rw (left, is, was)
+  other-return class left is = rw (left, is, was)
 
-  pub other-train : {asked granted owes : ℕ} → m ≡ Train asked granted → owes ≡ d .clears .owes - 1 → brought ≡ broughtClears (d .clears) asked granted owes
-      → withClears brought (withReceipt time 0 e) ≡ otherDesk e time class m
-  other-train left less is = rw (left, is, less, was)
+  pub other-train : (class : ℕ) {asked granted owes : ℕ} {brought : Clears} → m ≡ Train asked granted → owes ≡ d .clears .owes - 1
+      → brought ≡ broughtClears (d .clears) asked granted owes → withClears brought (withReceipt time 0 e) ≡ otherDesk e time class m
+  other-train class left less is = rw (left, is, less, was)
 
--- ---- BEGIN, RESUME and MEET
+-- ---- BEGIN and RESUME: refused by the first of their tests that holds, or all is made anew, in force or not
 
--- BEGIN and RESUME: refused by the first of their tests that holds, or all is made anew
-module _ (w w₁ : List ℕ) (event : Event) (tests : List Test) (force : Bool) {given : Answer}
-    (is : entered (sectionIn w) event ≡ settled (sectionIn w) (firstOf tests) (emptied force (sectionIn w .refused)))
-    (start : startAfter (sectionIn w) event (startIn w) ≡ startIfAnew (firstOf tests) (startIn w)) where
-  pub declared-refused : {why : Refusal} → firstOf tests ≡ Refused why → Refuses w why given w₁ → Enters w event given w₁
-  declared-refused e refuses = record { answer = rw (is, e) (refuses .answer); words = rw (is, start, e) (refuses .words) }
+abbrev pub declaredTests : Bool → Section → List Test
+declaredTests true s = beginTests (s .force)
+declaredTests false s = resumeTests (s .force) (s .len)
 
-  pub declared-allowed : firstOf tests ≡ Allowed → given ≡ Accepted 0 0 NoSpeed → Becomes w w₁ (emptied force (sectionIn w .refused)) 0 → Enters w event given w₁
-  declared-allowed e answer words = record { answer = rw (is, e) answer; words = rw (is, start, e) words }
+abbrev pub declaring : Bool → Event
+declaring true = Begin
+declaring false = Resume
 
-begin-is : (s : Section) → entered s Begin ≡ settled s (firstOf (beginTests (s .force))) (emptied true (s .refused))
-unfolding entered
-begin-is s = refl
+module _ {w w₁ : List ℕ} {given : Answer} where
+  declares-by : (force : Bool) (v : Verdict) → let s = sectionIn w in firstOf (declaredTests force s) ≡ v → given ≡ settled s v (emptied force (s .refused)) .answer
+      → Becomes w w₁ (settled s v (emptied force (s .refused)) .section) (startIfAnew v (startIn w)) → Enters w (declaring force) given w₁
+  unfolding entered
+  declares-by true v is answer words = record { answer = rw is answer; words = rw is words }
+  declares-by false v is answer words = record { answer = rw is answer; words = rw is words }
 
-resume-is : (s : Section) → entered s Resume ≡ settled s (firstOf (resumeTests (s .force) (s .len))) (emptied false (s .refused))
-unfolding entered
-resume-is s = refl
+  pub declared-refused : (force : Bool) {why : Refusal} → firstOf (declaredTests force (sectionIn w)) ≡ Refused why → Refuses w why given w₁ → Enters w (declaring force) given w₁
+  declared-refused force {why} is refuses = declares-by force (Refused why) is (refuses .answer) (refuses .words)
 
-module _ (w : List ℕ) {w₁ : List ℕ} {given : Answer} where
-  pub begin-refused : {why : Refusal} → firstOf (beginTests (sectionIn w .force)) ≡ Refused why → Refuses w why given w₁ → Enters w Begin given w₁
-  begin-refused = declared-refused w w₁ Begin (beginTests (sectionIn w .force)) true (begin-is (sectionIn w)) refl
+  pub declared-allowed : (force : Bool) → firstOf (declaredTests force (sectionIn w)) ≡ Allowed → given ≡ Accepted 0 0 NoSpeed
+      → Becomes w w₁ (emptied force (sectionIn w .refused)) 0 → Enters w (declaring force) given w₁
+  declared-allowed force is answer words = declares-by force Allowed is answer words
 
-  pub begin-allowed : firstOf (beginTests (sectionIn w .force)) ≡ Allowed → given ≡ Accepted 0 0 NoSpeed → Becomes w w₁ (emptied true (sectionIn w .refused)) 0 → Enters w Begin given w₁
-  begin-allowed = declared-allowed w w₁ Begin (beginTests (sectionIn w .force)) true (begin-is (sectionIn w)) refl
+-- ---- MEET: 7, then 22, or the two have met
 
-  pub resume-refused : {why : Refusal} → firstOf (resumeTests (sectionIn w .force) (sectionIn w .len)) ≡ Refused why → Refuses w why given w₁ → Enters w Resume given w₁
-  resume-refused = declared-refused w w₁ Resume (resumeTests (sectionIn w .force) (sectionIn w .len)) false (resume-is (sectionIn w)) refl
-
-  pub resume-allowed : firstOf (resumeTests (sectionIn w .force) (sectionIn w .len)) ≡ Allowed → given ≡ Accepted 0 0 NoSpeed → Becomes w w₁ (emptied false (sectionIn w .refused)) 0 → Enters w Resume given w₁
-  resume-allowed = declared-allowed w w₁ Resume (resumeTests (sectionIn w .force) (sectionIn w .len)) false (resume-is (sectionIn w)) refl
-
--- MEET: 7, then 22, or the two have met
 abbrev meetVerdict : Bool → Bool → Verdict
 meetVerdict force may = firstOf ((not force, NotInForce) ∷ (not may, MayNotMeet) ∷ [])
 
@@ -205,20 +248,18 @@ module _ (w : List ℕ) (x sender : Station) (form : ℕ) where
   meet-out-of-force off refuses =
       meet-by (Refused NotInForce) (ap (λ (b : Bool). meetVerdict b (mayMeet (vehiclesOf (sectionIn w)) place)) off) (refuses .answer) (refuses .words)
 
-  pub meet-refused : {w₁ w₂ : List ℕ} {given : Answer} → sectionIn w .force ≡ true → Met w w₁ x sender form false → Refuses w₁ MayNotMeet given w₂ → Enters w (Meet x sender form) given w₂
+  pub meet-refused : {w₁ w₂ : List ℕ} {given : Answer} → sectionIn w .force ≡ true → Met w w₁ x sender form false → Refuses w₁ MayNotMeet given w₂
+      → Enters w (Meet x sender form) given w₂
   meet-refused {w₁} {w₂} on met refuses =
       let kept = met .words in
-      let counted : Becomes w₁ w₂ (countRefusal (sectionIn w)) (startIn w) = becomes (ap countRefusal (kept .section)) (kept .start) (refuses .words) in
-      meet-by (Refused MayNotMeet) (ap₂ meetVerdict on (sym (met .may))) (refuses .answer) (then kept counted (λ less. less))
+      let counted : Becomes w₁ w₂ (countRefusal (sectionIn w)) (startIn w) = becomes-as (refuses .words) (ap countRefusal (kept .section)) (kept .start) in
+      meet-by (Refused MayNotMeet) (ap₂ meetVerdict on (sym (met .may))) (refuses .answer) (becomes-then kept counted (λ less. less))
 
-  pub meet-allowed : {w₁ : List ℕ} {given : Answer} → sectionIn w .force ≡ true → Met w w₁ x sender form true → given ≡ Accepted 0 0 NoSpeed → Enters w (Meet x sender form) given w₁
+  pub meet-allowed : {w₁ : List ℕ} {given : Answer} → sectionIn w .force ≡ true → Met w w₁ x sender form true → given ≡ Accepted 0 0 NoSpeed
+      → Enters w (Meet x sender form) given w₁
   meet-allowed on met answer = meet-by Allowed (ap₂ meetVerdict on (sym (met .may))) answer (met .words)
 
 -- whether the two met, where the code has the stations and the answer by other names
 pub met-by : {w w₁ : List ℕ} {x y sender z : Station} {form : ℕ} {b c : Bool} → y ≡ x → z ≡ sender → b ≡ c → Met w w₁ y z form b → Met w w₁ x sender form c
 met-by {w} {w₁} {x} {sender = sender} {z} {form} {b} to from is met =
     subst (λ (d : Bool). Met w w₁ x sender form d) is (subst (λ (q : Station). Met w w₁ x q form b) from (subst (λ (q : Station). Met w w₁ q z form b) to met))
-
--- a departure that no test refuses has a form number left, and room for one more sent
-pub may-depart : (force : Bool) (d : Desk) (time : ℕ) (own : List Test) → firstOf (departTests force d time own) ≡ Allowed → (d .last < 9999) × (d .sent < 12)
-may-depart force d time own passed = let last = depart-passes force d time own (none-holds (departTests force d time own) passed) .last in (last .unused, last .room)

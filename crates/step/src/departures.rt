@@ -1,4 +1,5 @@
-// OPEN, THROUGH, RETURN and TRAIN: why each is refused, and else the figures that it puts and its driver's order.
+// OPEN, THROUGH, RETURN and TRAIN: why each is refused, and else the figures that it puts and its driver's order. 7 and 9 are tested first and returned on, so that
+// a kind's own tests stand behind them.
 ghost use Prim.Native.Nat.{_+_, _<_};
 ghost use Rattle.step.specs.Entering.{Enters, Leaves};
 ghost use Rattle.words.specs.Words.{sectionIn};
@@ -17,6 +18,7 @@ use rules::open_speed;
 use rules::open_verdict;
 use rules::return_clears;
 use rules::return_verdict;
+use rules::station_verdict;
 use rules::train_clears;
 use rules::train_speed;
 use rules::train_verdict;
@@ -57,8 +59,12 @@ pub(crate) fn enter_open(words: &mut Words, e: Entry) -> Answer
 {
     let at = station_of(e.station);
     let d = desk(words, at);
-    let verdict = departure_verdict(in_force(words), d, e.time, open_verdict(d));
+    let verdict = station_verdict(in_force(words), d, e.time);
     if let Verdict::Refused(why) = verdict {
+        return refuse(words, why);
+    }
+    let own = departure_verdict(d, e.time, open_verdict(d));
+    if let Verdict::Refused(why) = own {
         return refuse(words, why);
     }
     let movement = Movement::Open { asked: e.asked };
@@ -78,8 +84,12 @@ pub(crate) fn enter_through(words: &mut Words, e: Entry) -> Answer
 {
     let at = station_of(e.station);
     let d = desk(words, at);
-    let verdict = departure_verdict(in_force(words), d, e.time, open_verdict(d));
+    let verdict = station_verdict(in_force(words), d, e.time);
     if let Verdict::Refused(why) = verdict {
+        return refuse(words, why);
+    }
+    let own = departure_verdict(d, e.time, open_verdict(d));
+    if let Verdict::Refused(why) = own {
         return refuse(words, why);
     }
     let form = depart(
@@ -106,8 +116,12 @@ pub(crate) fn enter_return(words: &mut Words, e: Entry) -> Answer
     let asked = e.asked;
     let granted = e.granted;
     let d = desk(words, at);
-    let verdict = departure_verdict(in_force(words), d, e.time, return_verdict(d, granted));
+    let verdict = station_verdict(in_force(words), d, e.time);
     if let Verdict::Refused(why) = verdict {
+        return refuse(words, why);
+    }
+    let own = departure_verdict(d, e.time, return_verdict(d, granted));
+    if let Verdict::Refused(why) = own {
         return refuse(words, why);
     }
     let clears = d.clears;
@@ -137,8 +151,12 @@ pub(crate) fn enter_train(words: &mut Words, e: Entry) -> Answer
     let asked = e.asked;
     let granted = e.granted;
     let d = desk(words, at);
-    let verdict = departure_verdict(in_force(words), d, e.time, train_verdict(d, granted));
+    let verdict = station_verdict(in_force(words), d, e.time);
     if let Verdict::Refused(why) = verdict {
+        return refuse(words, why);
+    }
+    let own = departure_verdict(d, e.time, train_verdict(d, granted));
+    if let Verdict::Refused(why) = own {
         return refuse(words, why);
     }
     let clears = d.clears;

@@ -12,11 +12,11 @@ ghost use mathlib.Core.Path.{_≡_};
 use crate::answers::accepted;
 use crate::answers::refuse;
 use crate::fields::station_of;
-use rules::act_verdict;
 use rules::brought_clears;
 use rules::lowered;
 use rules::opened_clears;
 use rules::receive_verdict;
+use rules::station_verdict;
 use section::station_number;
 use words::Words;
 use words::desk;
@@ -105,10 +105,13 @@ pub(crate) fn enter_receive(words: &mut Words, e: Entry) -> Answer
     let at = station_of(e.station);
     let sender = station_of(e.sender);
     let d = desk(words, at);
+    let verdict = station_verdict(in_force(words), d, e.time);
+    if let Verdict::Refused(why) = verdict {
+        return refuse(words, why);
+    }
     let v = nearest(words, at);
     let own = receive_verdict(at, sender, e.number, v);
-    let verdict = act_verdict(in_force(words), d, e.time, own);
-    if let Verdict::Refused(why) = verdict {
+    if let Verdict::Refused(why) = own {
         return refuse(words, why);
     }
     remove(words, at);

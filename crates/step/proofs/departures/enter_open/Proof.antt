@@ -1,127 +1,69 @@
 -- `departures::enter_open` meets its contract: the tests are the definition's, and where none holds the vehicle leaves and out is set.
 -- Assumes nothing.
-use Rattle.step.proofs.Becoming.{act-done, act-refused, and-desk, departure-tested, may-depart}
+use Rattle.step.proofs.Becoming.{Looked, Passed, act-done, first-refused, left-with, look, may-leave, own-refused, pass}
 use Rattle.step.proofs.departures.enter_open.Statement.{statement}
 use Rattle.step.proofs.departures.enter_open.Tie as tie
-use Prim.Native.Nat.{ℕ}
-use Rattle.words.specs.Words.{sectionIn, withOut}
-use Rattle.working.specs.Acts as acts
-use Rattle.working.specs.Acts.{Act}
-use Rattle.working.specs.Events.{stationOf, viewOf}
-use Rattle.working.specs.Reasons.{departTests, openTests}
-use Rattle.working.specs.Refusals.{Test, firstOf}
-use Rattle.working.specs.Sections.{deskOf}
-use Rattle.working.specs.declared.Desk.{Desk}
-use Rattle.working.specs.declared.Section.{Section}
-use Rattle.working.specs.declared.Station.{Station}
+use Rattle.words.specs.Words.{withOut}
+use Rattle.working.specs.Acts.{Open}
+use Rattle.working.specs.Events.{viewOf}
+use Rattle.working.specs.Reasons.{openTests}
 use borrow.Author.Needs.{needs}
 use mathlib.Core.Bool.{true}
-use mathlib.Core.List.{List}
-use mathlib.Core.Path.{_∙_, _≡_, sym}
+use mathlib.Core.Path.{refl}
 
-abbrev desk-of : tie.After-departure-verdict → tie.After-desk
-desk-of c = c .before .before .before .before
+-- what is looked at: the desk, and what 7 and 9 come to
+abbrev desk-of : tie.After-station-verdict → tie.After-desk
+desk-of c = c .before .before .before
 
-abbrev start-of : tie.After-departure-verdict → tie.Start
+abbrev start-of : tie.After-station-verdict → tie.Start
 start-of c = desk-of c .before .before .before
 
-abbrev s : tie.After-departure-verdict → Section
-s c = sectionIn (start-of c .args .words .now)
+abbrev looked : (c : tie.After-station-verdict) → Looked (start-of c .args .words .now) (start-of c .args .e)
+looked c = look (desk-of c .before .before .station-of .ensures) (desk-of c .desk .ensures) (c .before .in-force .ensures) (c .station-verdict .ensures)
 
-abbrev x : tie.After-departure-verdict → Station
-x c = stationOf (start-of c .args .e .station)
+-- and what those of the kind come to, with 17 to 19 behind them
+abbrev first-of : tie.After-departure-verdict → tie.After-station-verdict
+first-of c = c .before .before .before .before
 
-abbrev time : tie.After-departure-verdict → ℕ
-time c = start-of c .args .e .time
-
-abbrev act : tie.After-departure-verdict → Act
-act c = acts.Open (viewOf (start-of c .args .e .view)) (start-of c .args .e .class) (start-of c .args .e .asked)
-
--- the tests of the kind, on a desk
-abbrev tests : tie.After-departure-verdict → Desk → List Test
-tests c d = openTests d
-
-station-of-requires : tie.Need-station-of-requires
-station-of-requires c κs = search needs
-
-desk-requires : tie.Need-desk-requires
-desk-requires c κs = search needs
-
-in-force-requires : tie.Need-in-force-requires
-in-force-requires c κs = search needs
-
-open-verdict-requires : tie.Need-open-verdict-requires
-open-verdict-requires c κs = search needs
-
-departure-verdict-requires : tie.Need-departure-verdict-requires
-departure-verdict-requires c κs = search needs
-
-verdict-is : (c : tie.After-departure-verdict) → c .departure-verdict .result ≡ firstOf (departTests (s c .force) (deskOf (s c) (x c)) (time c) (tests c (deskOf (s c) (x c))))
-verdict-is c =
-    departure-tested (s c) (x c) (time c) (tests c) (desk-of c .before .before .station-of .ensures) (desk-of c .desk .ensures)
-    (c .before .before .in-force .ensures) (c .before .open-verdict .ensures) (c .departure-verdict .ensures)
-
-enum-known-verdict : tie.Need-enum-known-verdict
-enum-known-verdict c = search needs
-
-refuse-requires : tie.Need-refuse-requires
-refuse-requires c κs = search needs
+abbrev passed : (c : tie.After-departure-verdict) → let a = start-of (first-of c) .args in
+    Passed (a .words .now) (a .e) (Open (viewOf (a .e .view)) (a .e .class) (a .e .asked))
+passed c =
+    let l = looked (first-of c) in
+    pass l (c .before .before .enum-told .given .1) (c .departure-verdict .ensures (openTests (l .desk)) (c .before .open-verdict .ensures))
 
 returns : tie.Need-returns
-returns c =
-    let told = c .before .before .before in
-    let d = told .before .before in
-    act-refused (start-of d .args .words .now) _ (x d) (time d) (act d) (sym (verdict-is d) ∙ told .verdict .given .1) (c .refuse .ensures)
+returns c = let told = c .before .before .before in first-refused (looked (told .before .before)) (told .verdict .given .1) (c .refuse .ensures)
 
-enum-told : tie.Need-enum-told
-enum-told c = search needs
+returns-2 : tie.Need-returns-2
+returns-2 c = let told = c .before .before .before in own-refused (passed (told .before .before)) (told .own .given .1) (c .refuse2 .ensures)
 
 depart-requires : tie.Need-depart-requires
 depart-requires c κs =
     let told = c .before in
-    let d = told .before .before in
-    let desk = desk-of d .desk in
-    let passed = may-depart (d .before .before .in-force .result) (desk .result) (time d) (tests d (desk .result))
-    (sym (d .departure-verdict .ensures (tests d (desk .result)) (d .before .open-verdict .ensures)) ∙ told .enum-told .given .1) in
-    (desk .ensures, passed .0, passed .1)
+    let p = passed (told .before .before) in
+    may-leave p (openTests (p .looked .desk)) refl (told .enum-told2 .given .1)
 
-put-out-requires : tie.Need-put-out-requires
-put-out-requires c κs = search needs
-
-view-of-requires : tie.Need-view-of-requires
-view-of-requires c κs = search needs
-
-open-speed-requires : tie.Need-open-speed-requires
-open-speed-requires c κs = search needs
-
-returns-2 : tie.Need-returns-2
-returns-2 c =
+returns-3 : tie.Need-returns-3
+returns-3 c =
     let put = c .before .before in
     let left = put .before .before in
     let told = left .before .before in
-    let d = told .before .before in
-    act-done (start-of d .args .words .now) (x d) (time d) (act d) (desk-of d .before .before .station-of .ensures) (desk-of d .desk .ensures)
-    (sym (verdict-is d) ∙ told .enum-told .given .1)
+    let p = passed (told .before .before) in
+    act-done p (told .enum-told2 .given .1)
     (record {
       answer = rw (c .open-speed .ensures, c .before .view-of .ensures, left .depart .ensures .0);
-      words = and-desk _ (desk-of d .before .before .station-of .result) _ (withOut true) (left .depart .ensures .1) (put .put-out .ensures);
+      words = left-with (p .looked) (left .depart .ensures .1) (withOut true) (put .put-out .ensures);
     })
 
 pub enter-open-spec : {M : Type 1} → statement M
 enter-open-spec =
     tie.close
     (tie.spec
-    station-of-requires
-    desk-requires
-    in-force-requires
-    open-verdict-requires
-    departure-verdict-requires
-    enum-known-verdict
-    refuse-requires
+    (λ c κs. search needs) (λ c κs. search needs) (λ c κs. search needs) (λ c κs. search needs) (λ c. search needs) (λ c κs. search needs)
     returns
-    enum-told
+    (λ c. search needs) (λ c κs. search needs) (λ c κs. search needs) (λ c. search needs) (λ c κs. search needs)
+    returns-2
+    (λ c. search needs)
     depart-requires
-    put-out-requires
-    view-of-requires
-    open-speed-requires
-    returns-2)
+    (λ c κs. search needs) (λ c κs. search needs) (λ c κs. search needs)
+    returns-3)

@@ -1,134 +1,72 @@
 -- `departures::enter_return` meets its contract: the tests are the definition's, and where none holds the guest leaves and the enquiry is answered.
 -- Assumes nothing.
-use Rattle.step.proofs.Becoming.{act-done, act-refused, and-desk, departure-tested, may-depart}
+use Rattle.step.proofs.Becoming.{Looked, Passed, act-done, first-refused, left-with, look, may-leave, own-refused, pass}
 use Rattle.step.proofs.departures.enter_return.Statement.{statement}
 use Rattle.step.proofs.departures.enter_return.Tie as tie
-use Prim.Native.Nat.{ℕ}
-use Rattle.words.specs.Words.{sectionIn, withClears, withGuest}
-use Rattle.working.specs.Acts as acts
-use Rattle.working.specs.Acts.{Act}
-use Rattle.working.specs.Events.{stationOf}
-use Rattle.working.specs.Reasons.{departTests, returnTests}
-use Rattle.working.specs.Refusals.{Test, firstOf}
-use Rattle.working.specs.Sections.{deskOf}
-use Rattle.working.specs.declared.Desk.{Desk}
-use Rattle.working.specs.declared.Section.{Section}
-use Rattle.working.specs.declared.Station.{Station}
+use Rattle.words.proofs.Becoming.{desk-then}
+use Rattle.words.specs.Words.{withClears, withGuest}
+use Rattle.working.specs.Acts.{Return}
+use Rattle.working.specs.Reasons.{returnTests}
 use borrow.Author.Needs.{needs}
-use mathlib.Core.List.{List}
-use mathlib.Core.Path.{_∙_, _≡_, sym}
+use mathlib.Core.Path.{refl}
 
-abbrev desk-of : tie.After-departure-verdict → tie.After-desk
-desk-of c = c .before .before .before .before
+-- what is looked at: the desk, and what 7 and 9 come to
+abbrev desk-of : tie.After-station-verdict → tie.After-desk
+desk-of c = c .before .before .before
 
-abbrev start-of : tie.After-departure-verdict → tie.Start
+abbrev start-of : tie.After-station-verdict → tie.Start
 start-of c = desk-of c .before .before .before
 
-abbrev s : tie.After-departure-verdict → Section
-s c = sectionIn (start-of c .args .words .now)
+abbrev looked : (c : tie.After-station-verdict) → Looked (start-of c .args .words .now) (start-of c .args .e)
+looked c = look (desk-of c .before .before .station-of .ensures) (desk-of c .desk .ensures) (c .before .in-force .ensures) (c .station-verdict .ensures)
 
-abbrev x : tie.After-departure-verdict → Station
-x c = stationOf (start-of c .args .e .station)
+-- and what those of the kind come to, with 17 to 19 behind them
+abbrev first-of : tie.After-departure-verdict → tie.After-station-verdict
+first-of c = c .before .before .before .before
 
-abbrev time : tie.After-departure-verdict → ℕ
-time c = start-of c .args .e .time
-
-abbrev act : tie.After-departure-verdict → Act
-act c = acts.Return (start-of c .args .e .asked) (start-of c .args .e .granted)
-
--- the tests of the kind, on a desk
-abbrev tests : tie.After-departure-verdict → Desk → List Test
-tests c d = returnTests d (start-of c .args .e .granted)
-
-station-of-requires : tie.Need-station-of-requires
-station-of-requires c κs = search needs
-
-desk-requires : tie.Need-desk-requires
-desk-requires c κs = search needs
-
-in-force-requires : tie.Need-in-force-requires
-in-force-requires c κs = search needs
-
-return-verdict-requires : tie.Need-return-verdict-requires
-return-verdict-requires c κs = search needs
-
-departure-verdict-requires : tie.Need-departure-verdict-requires
-departure-verdict-requires c κs = search needs
-
-verdict-is : (c : tie.After-departure-verdict) → c .departure-verdict .result ≡ firstOf (departTests (s c .force) (deskOf (s c) (x c)) (time c) (tests c (deskOf (s c) (x c))))
-verdict-is c =
-    departure-tested (s c) (x c) (time c) (tests c) (desk-of c .before .before .station-of .ensures) (desk-of c .desk .ensures)
-    (c .before .before .in-force .ensures) (c .before .return-verdict .ensures) (c .departure-verdict .ensures)
-
-enum-known-verdict : tie.Need-enum-known-verdict
-enum-known-verdict c = search needs
-
-refuse-requires : tie.Need-refuse-requires
-refuse-requires c κs = search needs
+abbrev passed : (c : tie.After-departure-verdict) → let a = start-of (first-of c) .args in
+    Passed (a .words .now) (a .e) (Return (a .e .asked) (a .e .granted))
+passed c =
+    let l = looked (first-of c) in
+    pass l (c .before .before .enum-told .given .1) (c .departure-verdict .ensures (returnTests (l .desk) _) (c .before .return-verdict .ensures))
 
 returns : tie.Need-returns
-returns c =
-    let told = c .before .before .before in
-    let d = told .before .before in
-    act-refused (start-of d .args .words .now) _ (x d) (time d) (act d) (sym (verdict-is d) ∙ told .verdict .given .1) (c .refuse .ensures)
+returns c = let told = c .before .before .before in first-refused (looked (told .before .before)) (told .verdict .given .1) (c .refuse .ensures)
 
-enum-told : tie.Need-enum-told
-enum-told c = search needs
+returns-2 : tie.Need-returns-2
+returns-2 c = let told = c .before .before .before in own-refused (passed (told .before .before)) (told .own .given .1) (c .refuse2 .ensures)
 
 depart-requires : tie.Need-depart-requires
 depart-requires c κs =
     let told = c .before .before in
-    let d = told .before .before in
-    let desk = desk-of d .desk in
-    let passed = may-depart (d .before .before .in-force .result) (desk .result) (time d) (tests d (desk .result))
-    (sym (d .departure-verdict .ensures (tests d (desk .result)) (d .before .return-verdict .ensures)) ∙ told .enum-told .given .1) in
-    (desk .ensures, passed .0, passed .1)
+    let p = passed (told .before .before) in
+    may-leave p (returnTests (p .looked .desk) _) refl (told .enum-told2 .given .1)
 
-put-guest-requires : tie.Need-put-guest-requires
-put-guest-requires c κs = search needs
-
-return-clears-requires : tie.Need-return-clears-requires
-return-clears-requires c κs = search needs
-
-put-clears-requires : tie.Need-put-clears-requires
-put-clears-requires c κs = search needs
-
-clear-forms-requires : tie.Need-clear-forms-requires
-clear-forms-requires c κs = search needs
-
-returns-2 : tie.Need-returns-2
-returns-2 c =
+returns-3 : tie.Need-returns-3
+returns-3 c =
     let put = c .before in
     let clears = put .before in
     let guest = clears .before .before in
     let left = guest .before .before in
     let told = left .before .before .before in
-    let d = told .before .before in
-    act-done (start-of d .args .words .now) (x d) (time d) (act d) (desk-of d .before .before .station-of .ensures) (desk-of d .desk .ensures)
-    (sym (verdict-is d) ∙ told .enum-told .given .1)
+    let p = passed (told .before .before) in
+    act-done p (told .enum-told2 .given .1)
     (record {
       answer = rw (c .clear-forms .ensures, left .depart .ensures .0);
       words = rw (← clears .return-clears .ensures)
-          (and-desk _ (desk-of d .before .before .station-of .result) _ (withClears (clears .return-clears .result))
-          (and-desk _ (desk-of d .before .before .station-of .result) _ (withGuest 0) (left .depart .ensures .1) (guest .put-guest .ensures)) (put .put-clears .ensures));
+          (left-with (p .looked) (left .depart .ensures .1) (λ d. withClears (clears .return-clears .result) (withGuest 0 d))
+          (desk-then (p .looked .at) (withGuest 0) (withClears (clears .return-clears .result)) (guest .put-guest .ensures) (put .put-clears .ensures)));
     })
 
 pub enter-return-spec : {M : Type 1} → statement M
 enter-return-spec =
     tie.close
     (tie.spec
-    station-of-requires
-    desk-requires
-    in-force-requires
-    return-verdict-requires
-    departure-verdict-requires
-    enum-known-verdict
-    refuse-requires
+    (λ c κs. search needs) (λ c κs. search needs) (λ c κs. search needs) (λ c κs. search needs) (λ c. search needs) (λ c κs. search needs)
     returns
-    enum-told
+    (λ c. search needs) (λ c κs. search needs) (λ c κs. search needs) (λ c. search needs) (λ c κs. search needs)
+    returns-2
+    (λ c. search needs)
     depart-requires
-    put-guest-requires
-    return-clears-requires
-    put-clears-requires
-    clear-forms-requires
-    returns-2)
+    (λ c κs. search needs) (λ c κs. search needs) (λ c κs. search needs) (λ c κs. search needs)
+    returns-3)

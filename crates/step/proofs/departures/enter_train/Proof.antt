@@ -1,137 +1,70 @@
 -- `departures::enter_train` meets its contract: the tests are the definition's, and where none holds the train leaves on a line clear.
 -- Assumes nothing.
-use Rattle.step.proofs.Becoming.{act-done, act-refused, and-desk, departure-tested, may-depart}
+use Rattle.step.proofs.Becoming.{Looked, Passed, act-done, first-refused, left-with, look, may-leave, own-refused, pass}
 use Rattle.step.proofs.departures.enter_train.Statement.{statement}
 use Rattle.step.proofs.departures.enter_train.Tie as tie
-use Prim.Native.Nat.{ℕ}
-use Rattle.words.specs.Words.{sectionIn, withClears}
-use Rattle.working.specs.Acts as acts
-use Rattle.working.specs.Acts.{Act}
-use Rattle.working.specs.Events.{stationOf, viewOf}
-use Rattle.working.specs.Reasons.{departTests, trainTests}
-use Rattle.working.specs.Refusals.{Test, firstOf}
-use Rattle.working.specs.Sections.{deskOf}
-use Rattle.working.specs.declared.Desk.{Desk}
-use Rattle.working.specs.declared.Section.{Section}
-use Rattle.working.specs.declared.Station.{Station}
+use Rattle.words.specs.Words.{withClears}
+use Rattle.working.specs.Acts.{Train}
+use Rattle.working.specs.Events.{viewOf}
+use Rattle.working.specs.Reasons.{trainTests}
 use borrow.Author.Needs.{needs}
-use mathlib.Core.List.{List}
-use mathlib.Core.Path.{_∙_, _≡_, sym}
+use mathlib.Core.Path.{refl}
 
-abbrev desk-of : tie.After-departure-verdict → tie.After-desk
-desk-of c = c .before .before .before .before
+-- what is looked at: the desk, and what 7 and 9 come to
+abbrev desk-of : tie.After-station-verdict → tie.After-desk
+desk-of c = c .before .before .before
 
-abbrev start-of : tie.After-departure-verdict → tie.Start
+abbrev start-of : tie.After-station-verdict → tie.Start
 start-of c = desk-of c .before .before .before
 
-abbrev s : tie.After-departure-verdict → Section
-s c = sectionIn (start-of c .args .words .now)
+abbrev looked : (c : tie.After-station-verdict) → Looked (start-of c .args .words .now) (start-of c .args .e)
+looked c = look (desk-of c .before .before .station-of .ensures) (desk-of c .desk .ensures) (c .before .in-force .ensures) (c .station-verdict .ensures)
 
-abbrev x : tie.After-departure-verdict → Station
-x c = stationOf (start-of c .args .e .station)
+-- and what those of the kind come to, with 17 to 19 behind them
+abbrev first-of : tie.After-departure-verdict → tie.After-station-verdict
+first-of c = c .before .before .before .before
 
-abbrev time : tie.After-departure-verdict → ℕ
-time c = start-of c .args .e .time
-
-abbrev act : tie.After-departure-verdict → Act
-act c = acts.Train (viewOf (start-of c .args .e .view)) (start-of c .args .e .asked) (start-of c .args .e .granted)
-
--- the tests of the kind, on a desk
-abbrev tests : tie.After-departure-verdict → Desk → List Test
-tests c d = trainTests d (start-of c .args .e .granted)
-
-station-of-requires : tie.Need-station-of-requires
-station-of-requires c κs = search needs
-
-desk-requires : tie.Need-desk-requires
-desk-requires c κs = search needs
-
-in-force-requires : tie.Need-in-force-requires
-in-force-requires c κs = search needs
-
-train-verdict-requires : tie.Need-train-verdict-requires
-train-verdict-requires c κs = search needs
-
-departure-verdict-requires : tie.Need-departure-verdict-requires
-departure-verdict-requires c κs = search needs
-
-verdict-is : (c : tie.After-departure-verdict) → c .departure-verdict .result ≡ firstOf (departTests (s c .force) (deskOf (s c) (x c)) (time c) (tests c (deskOf (s c) (x c))))
-verdict-is c =
-    departure-tested (s c) (x c) (time c) (tests c) (desk-of c .before .before .station-of .ensures) (desk-of c .desk .ensures)
-    (c .before .before .in-force .ensures) (c .before .train-verdict .ensures) (c .departure-verdict .ensures)
-
-enum-known-verdict : tie.Need-enum-known-verdict
-enum-known-verdict c = search needs
-
-refuse-requires : tie.Need-refuse-requires
-refuse-requires c κs = search needs
+abbrev passed : (c : tie.After-departure-verdict) → let a = start-of (first-of c) .args in
+    Passed (a .words .now) (a .e) (Train (viewOf (a .e .view)) (a .e .asked) (a .e .granted))
+passed c =
+    let l = looked (first-of c) in
+    pass l (c .before .before .enum-told .given .1) (c .departure-verdict .ensures (trainTests (l .desk) _) (c .before .train-verdict .ensures))
 
 returns : tie.Need-returns
-returns c =
-    let told = c .before .before .before in
-    let d = told .before .before in
-    act-refused (start-of d .args .words .now) _ (x d) (time d) (act d) (sym (verdict-is d) ∙ told .verdict .given .1) (c .refuse .ensures)
+returns c = let told = c .before .before .before in first-refused (looked (told .before .before)) (told .verdict .given .1) (c .refuse .ensures)
 
-enum-told : tie.Need-enum-told
-enum-told c = search needs
+returns-2 : tie.Need-returns-2
+returns-2 c = let told = c .before .before .before in own-refused (passed (told .before .before)) (told .own .given .1) (c .refuse2 .ensures)
 
 depart-requires : tie.Need-depart-requires
 depart-requires c κs =
     let told = c .before .before .before in
-    let d = told .before .before in
-    let desk = desk-of d .desk in
-    let passed = may-depart (d .before .before .in-force .result) (desk .result) (time d) (tests d (desk .result))
-    (sym (d .departure-verdict .ensures (tests d (desk .result)) (d .before .train-verdict .ensures)) ∙ told .enum-told .given .1) in
-    (desk .ensures, passed .0, passed .1)
+    let p = passed (told .before .before) in
+    may-leave p (trainTests (p .looked .desk) _) refl (told .enum-told2 .given .1)
 
-train-clears-requires : tie.Need-train-clears-requires
-train-clears-requires c κs = search needs
-
-put-clears-requires : tie.Need-put-clears-requires
-put-clears-requires c κs = search needs
-
-clear-forms-requires : tie.Need-clear-forms-requires
-clear-forms-requires c κs = search needs
-
-view-of-requires : tie.Need-view-of-requires
-view-of-requires c κs = search needs
-
-train-speed-requires : tie.Need-train-speed-requires
-train-speed-requires c κs = search needs
-
-returns-2 : tie.Need-returns-2
-returns-2 c =
+returns-3 : tie.Need-returns-3
+returns-3 c =
     let forms = c .before .before in
     let put = forms .before in
     let clears = put .before in
     let left = clears .before .before in
     let told = left .before .before .before .before in
-    let d = told .before .before in
-    act-done (start-of d .args .words .now) (x d) (time d) (act d) (desk-of d .before .before .station-of .ensures) (desk-of d .desk .ensures)
-    (sym (verdict-is d) ∙ told .enum-told .given .1)
+    let p = passed (told .before .before) in
+    act-done p (told .enum-told2 .given .1)
     (record {
       answer = rw (c .train-speed .ensures, c .before .view-of .ensures, forms .clear-forms .ensures, left .depart .ensures .0);
-      words = rw (← clears .train-clears .ensures)
-          (and-desk _ (desk-of d .before .before .station-of .result) _ (withClears (clears .train-clears .result)) (left .depart .ensures .1) (put .put-clears .ensures));
+      words = rw (← clears .train-clears .ensures) (left-with (p .looked) (left .depart .ensures .1) (withClears (clears .train-clears .result)) (put .put-clears .ensures));
     })
 
 pub enter-train-spec : {M : Type 1} → statement M
 enter-train-spec =
     tie.close
     (tie.spec
-    station-of-requires
-    desk-requires
-    in-force-requires
-    train-verdict-requires
-    departure-verdict-requires
-    enum-known-verdict
-    refuse-requires
+    (λ c κs. search needs) (λ c κs. search needs) (λ c κs. search needs) (λ c κs. search needs) (λ c. search needs) (λ c κs. search needs)
     returns
-    enum-told
+    (λ c. search needs) (λ c κs. search needs) (λ c κs. search needs) (λ c. search needs) (λ c κs. search needs)
+    returns-2
+    (λ c. search needs)
     depart-requires
-    train-clears-requires
-    put-clears-requires
-    clear-forms-requires
-    view-of-requires
-    train-speed-requires
-    returns-2)
+    (λ c κs. search needs) (λ c κs. search needs) (λ c κs. search needs) (λ c κs. search needs) (λ c κs. search needs)
+    returns-3)

@@ -1,112 +1,85 @@
 -- `receipts::enter_receive` meets its contract: the tests are the definition's, and where none holds the vehicle is taken and the desk altered by it.
 -- Assumes nothing.
-use Prim.Native.Nat.{ℕ}
-use Rattle.step.proofs.Becoming.{act-done, act-refused, vehicles-and-desk, vehicles-desk-is, may-enter, receipt-tested}
+use Rattle.step.proofs.Becoming.{Looked, Passed, act-done, desk-behind, first-refused, line-and-desk, look, own-refused, pass}
 use Rattle.step.proofs.receipts.enter_receive.Statement.{statement}
 use Rattle.step.proofs.receipts.enter_receive.Tie as tie
-use Rattle.words.specs.Words.{sectionIn}
-use Rattle.working.specs.Acts as acts
-use Rattle.working.specs.Acts.{Act}
+use Rattle.words.specs.Words.{startOn}
+use Rattle.working.proofs.Tests.{none-holds}
+use Rattle.working.specs.Acts.{Receive}
 use Rattle.working.specs.Effects.{arriveDesk}
 use Rattle.working.specs.Events.{stationOf}
-use Rattle.working.specs.Reasons.{receiveTests, testsOf}
-use Rattle.working.specs.Refusals.{firstOf}
-use Rattle.working.specs.Sections.{deskOf, vehiclesOf, nearestAt, removeAt}
-use Rattle.working.specs.declared.Section.{Section}
-use Rattle.working.specs.declared.Station.{Station}
+use Rattle.working.specs.Reasons.{receiveTests}
+use Rattle.working.specs.Sections.{removeAt}
 use borrow.Author.Needs.{needs}
-use mathlib.Core.Path.{_∙_, _≡_, sym}
+use borrow.Author.Tests.{not-false}
+use mathlib.Core.Path.{_∙_, sym}
 
-abbrev near-of : tie.After-act-verdict → tie.After-nearest
-near-of c = c .before .before .before .before
+-- what is looked at: the desk, and what 7 and 9 come to
+abbrev desk-of : tie.After-station-verdict → tie.After-desk
+desk-of c = c .before .before .before
 
-abbrev desk-of : tie.After-act-verdict → tie.After-desk
-desk-of c = near-of c .before .before
+abbrev sender-of : tie.After-station-verdict → tie.After-station-of2
+sender-of c = desk-of c .before .before
 
-abbrev start-of : tie.After-act-verdict → tie.Start
-start-of c = desk-of c .before .before .before .before
+abbrev start-of : tie.After-station-verdict → tie.Start
+start-of c = sender-of c .before .before
 
-abbrev s : tie.After-act-verdict → Section
-s c = sectionIn (start-of c .args .words .now)
+abbrev looked : (c : tie.After-station-verdict) → Looked (start-of c .args .words .now) (start-of c .args .e)
+looked c = look (sender-of c .before .station-of .ensures) (desk-of c .desk .ensures) (c .before .in-force .ensures) (c .station-verdict .ensures)
 
-abbrev x : tie.After-act-verdict → Station
-x c = stationOf (start-of c .args .e .station)
+-- and what the receipt's own tests come to, of the vehicle nearest the station
+abbrev first-of : tie.After-receive-verdict → tie.After-station-verdict
+first-of c = c .before .before .before .before .before
 
-abbrev time : tie.After-act-verdict → ℕ
-time c = start-of c .args .e .time
-
-abbrev act : tie.After-act-verdict → Act
-act c = acts.Receive (stationOf (start-of c .args .e .sender)) (start-of c .args .e .number)
-
-desk-requires : tie.Need-desk-requires
-desk-requires c κs = search needs
-
-nearest-requires : tie.Need-nearest-requires
-nearest-requires c κs = search needs
-
-in-force-requires : tie.Need-in-force-requires
-in-force-requires c κs = search needs
-
-verdict-is : (c : tie.After-act-verdict) → c .act-verdict .result ≡ firstOf (testsOf (act c) (x c) (s c .force) (deskOf (s c) (x c)) (time c) (nearestAt (x c) (vehiclesOf (s c))))
-verdict-is c =
-    let stations = desk-of c .before .before in
-    receipt-tested (s c) (x c) (time c) _ _ (stations .before .station-of .ensures) (stations .station-of2 .ensures) (desk-of c .desk .ensures) (near-of c .nearest .ensures)
-    (c .before .in-force .ensures) (c .before .before .before .receive-verdict .ensures) (c .act-verdict .ensures)
+abbrev passed : (c : tie.After-receive-verdict) → let a = start-of (first-of c) .args in
+    Passed (a .words .now) (a .e) (Receive (stationOf (a .e .sender)) (a .e .number))
+passed c =
+    pass (looked (first-of c)) {v = c .receive-verdict .result} (c .before .before .before .enum-told .given .1)
+    (rw (← c .before .nearest .ensures, ← sender-of (first-of c) .station-of2 .ensures) (c .receive-verdict .ensures))
 
 returns : tie.Need-returns
-returns c =
-    let told = c .before .before .before in
-    let d = told .before .before in
-    act-refused (start-of d .args .words .now) _ (x d) (time d) (act d) (sym (verdict-is d) ∙ told .verdict .given .1) (c .refuse .ensures)
+returns c = let told = c .before .before .before in first-refused (looked (told .before .before)) (told .verdict .given .1) (c .refuse .ensures)
 
-remove-requires : tie.Need-remove-requires
-remove-requires c κs = search needs
+returns-2 : tie.Need-returns-2
+returns-2 c = let told = c .before .before .before in own-refused (passed (told .before .before)) (told .own .given .1) (c .refuse2 .ensures)
 
 arrive-requires : tie.Need-arrive-requires
 arrive-requires c κs =
     let removed = c .before in
     let told = removed .before .before in
-    let d = told .before .before in
-    let desk = desk-of d .desk in
-    let sender = desk-of d .before .before in
-    let at = sender .before .station-of .result in
-    let v = near-of d .nearest .result in
-    let own = d .before .before .before .receive-verdict in (
-      desk .ensures ∙ sym (vehicles-desk-is (s d) (removeAt at (vehiclesOf (s d))) at (removed .remove .ensures)),
-      may-enter (d .before .in-force .result) (desk .result) (time d) at (sender .station-of2 .result) (start-of d .args .e .number) v
-          (sym (d .act-verdict .ensures (receiveTests at (sender .station-of2 .result) (start-of d .args .e .number) v) (own .ensures)) ∙ told .enum-told .given .1),
-    )
+    let own = told .before .before in
+    let first = first-of own in
+    let l = looked first in
+    let tests = receiveTests (l .at) (sender-of first .station-of2 .result) (start-of first .args .e .number) (own .before .nearest .result) in
+    let none = none-holds tests (sym (own .receive-verdict .ensures) ∙ told .enum-told2 .given .1) in
+    (l .desk-is ∙ sym (desk-behind (l .at) (removeAt (l .at)) (λ start. startOn (l .at) start 1) (removed .remove .ensures)), not-false _ (none .1 .0))
 
-returns-2 : tie.Need-returns-2
-returns-2 c =
+returns-3 : tie.Need-returns-3
+returns-3 c =
     let taken = c .before in
     let removed = taken .before .before in
     let told = removed .before .before in
-    let d = told .before .before in
-    let at = desk-of d .before .before .before .station-of in
-    act-done (start-of d .args .words .now) (x d) (time d) (act d) (at .ensures) (desk-of d .desk .ensures) (sym (verdict-is d) ∙ told .enum-told .given .1)
+    let own = told .before .before in
+    let p = passed own in
+    let x = p .looked .at in
+    let near = own .before .nearest in
+    act-done p (told .enum-told2 .given .1)
     (record {
       answer = c .accepted .ensures;
-      words = rw (← near-of d .nearest .ensures)
-          (vehicles-and-desk (s d) (removeAt (at .result) (vehiclesOf (s d))) (at .result) (λ e. arriveDesk (at .result) e (time d) (near-of d .nearest .result)) (desk-of d .desk .ensures) (removed .remove .ensures) (taken .arrive .ensures));
+      words = rw (← near .ensures)
+          (line-and-desk x (removeAt x) (λ start. startOn x start 1) (λ d. arriveDesk x d (start-of (first-of own) .args .e .time) (near .result)) (p .looked .desk-is)
+          (removed .remove .ensures) (taken .arrive .ensures));
     })
 
 pub enter-receive-spec : {M : Type 1} → statement M
 enter-receive-spec =
     tie.close
     (tie.spec
-    (λ c κs. search needs)
-    (λ c κs. search needs)
-    desk-requires
-    nearest-requires
-    (λ c κs. search needs)
-    in-force-requires
-    (λ c κs. search needs)
-    (λ c. search needs)
-    (λ c κs. search needs)
+    (λ c κs. search needs) (λ c κs. search needs) (λ c κs. search needs) (λ c κs. search needs) (λ c κs. search needs) (λ c. search needs) (λ c κs. search needs)
     returns
-    (λ c. search needs)
-    remove-requires
+    (λ c. search needs) (λ c κs. search needs) (λ c κs. search needs) (λ c. search needs) (λ c κs. search needs)
+    returns-2
+    (λ c. search needs) (λ c κs. search needs)
     arrive-requires
     (λ c κs. search needs)
-    returns-2)
+    returns-3)

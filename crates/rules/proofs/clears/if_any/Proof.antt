@@ -4,11 +4,5 @@ use Rattle.rules.proofs.clears.if_any.Statement.{statement}
 use Rattle.rules.proofs.clears.if_any.Tie as tie
 use borrow.Author.Tests.{le-ltb, lt-ltb}
 
-returns : tie.Need-returns
-returns c = rw (lt-ltb _ _ (c .if1 .taken))
-
-returns-2 : tie.Need-returns-2
-returns-2 c = rw (le-ltb _ _ (c .if1 .left))
-
 pub if-any-spec : {M : Type 1} → statement M
-if-any-spec = tie.close (tie.spec returns returns-2)
+if-any-spec = tie.close (tie.spec (λ c. rw (lt-ltb _ _ (c .if1 .taken))) (λ c. rw (le-ltb _ _ (c .if1 .left))))

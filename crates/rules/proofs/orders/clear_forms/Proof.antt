@@ -24,43 +24,10 @@ most c =
     let a = c .before .before .before .before .args in
     omega (arith, way-most (a .at), cond-most (a .booked) 128 64, cond-most (ltb 0 (a .asked)) 2 0, cond-most (ltb 0 (a .granted)) 4 0)
 
-way-form-requires : tie.Need-way-form-requires
-way-form-requires c κs = search needs
-
-form-by-requires : tie.Need-form-by-requires
-form-by-requires c κs = search needs
-
-form-by-requires-2 : tie.Need-form-by-requires-2
-form-by-requires-2 c κs = search needs
-
-form-by-requires-3 : tie.Need-form-by-requires-3
-form-by-requires-3 c κs = search needs
-
-add-result : tie.Need-add-result
-add-result c = omega (arith, most c)
-
-add-result-2 : tie.Need-add-result-2
-add-result-2 c = omega (arith, most c)
-
-add-result-3 : tie.Need-add-result-3
-add-result-3 c = omega (arith, most c)
-
-add-result-4 : tie.Need-add-result-4
-add-result-4 c = omega (arith, most c)
-
-returns : tie.Need-returns
-returns c = search needs
-
 pub clear-forms-spec : {M : Type 1} → statement M
 clear-forms-spec =
     tie.close
     (tie.spec
-    way-form-requires
-    form-by-requires
-    form-by-requires-2
-    form-by-requires-3
-    add-result
-    add-result-2
-    add-result-3
-    add-result-4
-    returns)
+    (λ c κs. search needs) (λ c κs. search needs) (λ c κs. search needs) (λ c κs. search needs)
+    (λ c. omega (arith, most c)) (λ c. omega (arith, most c)) (λ c. omega (arith, most c)) (λ c. omega (arith, most c))
+    (λ c. search needs))

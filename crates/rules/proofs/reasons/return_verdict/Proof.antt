@@ -1,38 +1,14 @@
 -- `reasons::return_verdict` meets its contract: the tests are the definition's, from the first to the last, and the first that holds says why.
 -- Assumes nothing.
-use Prim.Native.Nat.{ℕ}
 use Rattle.rules.proofs.reasons.return_verdict.Statement.{statement}
 use Rattle.rules.proofs.reasons.return_verdict.Tie as tie
-use Rattle.working.proofs.Scans.{LeftAfter, all-left, goes-on, stops}
-use Rattle.working.specs.Reasons.{returnTests}
 use borrow.Author.Tests.{eq-eqb, le-ltb, lt-ltb, ne-eqb}
 
-abbrev From : ℕ → tie.Start → Type 0
-From n c = LeftAfter n (returnTests (c .args .d) (c .args .granted))
-
-from-0 : (c : tie.Start) → From 0 c
-from-0 c = all-left (returnTests (c .args .d) (c .args .granted))
-
-returns : tie.Need-returns
-returns c = stops (from-0 (c .before)) (lt-ltb _ _ (c .if1 .taken))
-
-from-1 : (c : tie.Else1) → From 1 (c .before)
-from-1 c = goes-on (from-0 (c .before)) (le-ltb _ _ (c .if1 .left))
-
-returns-2 : tie.Need-returns-2
-returns-2 c = stops (from-1 (c .before)) (eq-eqb _ _ (c .if2 .taken))
-
-from-2 : (c : tie.Else2) → From 2 (c .before .before)
-from-2 c = goes-on (from-1 (c .before)) (ne-eqb _ _ (c .if2 .left))
-
-returns-3 : tie.Need-returns-3
-returns-3 c = stops (from-2 (c .before)) (lt-ltb _ _ (c .if3 .taken))
-
-from-3 : (c : tie.Else3) → From 3 (c .before .before .before)
-from-3 c = goes-on (from-2 (c .before)) (le-ltb _ _ (c .if3 .left))
-
-returns-4 : tie.Need-returns-4
-returns-4 c = from-3 c .says
-
 pub return-verdict-spec : {M : Type 1} → statement M
-return-verdict-spec = tie.close (tie.spec returns returns-2 returns-3 returns-4)
+return-verdict-spec =
+    tie.close
+    (tie.spec
+    (λ c. rw (lt-ltb _ _ (c .if1 .taken)))
+    (λ c. rw (le-ltb _ _ (c .before .if1 .left), eq-eqb _ _ (c .if2 .taken)))
+    (λ c. let guest = c .before in rw (le-ltb _ _ (guest .before .if1 .left), ne-eqb _ _ (guest .if2 .left), lt-ltb _ _ (c .if3 .taken)))
+    (λ c. let guest = c .before in rw (le-ltb _ _ (guest .before .if1 .left), ne-eqb _ _ (guest .if2 .left), le-ltb _ _ (c .if3 .left))))

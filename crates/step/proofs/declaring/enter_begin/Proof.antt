@@ -13,21 +13,13 @@ use mathlib.Core.Path.{_∙_, _≡_, ap, sym}
 verdict-is : (c : tie.After-begin-verdict) → firstOf (declaredTests true (sectionIn (c .before .before .before .args .words .now))) ≡ c .begin-verdict .result
 verdict-is c = sym (c .begin-verdict .ensures ∙ ap (λ f. firstOf (beginTests f)) (c .before .in-force .ensures))
 
-returns : tie.Need-returns
-returns c =
-    let told = c .before .before .before in
-    declared-refused true (verdict-is (told .before .before) ∙ told .verdict .given .1) (c .refuse .ensures)
-
-returns-2 : tie.Need-returns-2
-returns-2 c =
-    let told = c .before .before .before in
-    declared-allowed true (verdict-is (told .before .before) ∙ told .enum-told .given .1) (c .accepted .ensures) (c .before .empty .ensures)
-
 pub enter-begin-spec : {M : Type 1} → statement M
 enter-begin-spec =
     tie.close
     (tie.spec
     (λ c κs. search needs) (λ c κs. search needs) (λ c. search needs) (λ c κs. search needs)
-    returns
+    (λ c. let told = c .before .before .before in declared-refused true (verdict-is (told .before .before) ∙ told .verdict .given .1) (c .refuse .ensures))
     (λ c. search needs) (λ c κs. search needs) (λ c κs. search needs)
-    returns-2)
+    (λ c.
+    let told = c .before .before .before in
+    declared-allowed true (verdict-is (told .before .before) ∙ told .enum-told .given .1) (c .accepted .ensures) (c .before .empty .ensures)))

@@ -1,5 +1,6 @@
 -- `declaring::enter_meet` meets its contract: 7, then 22, and else the two have met.
 -- Assumes nothing.
+use Prim.Native.Nat.{ℕ}
 use Rattle.step.proofs.Becoming.{meet-allowed, meet-out-of-force, meet-refused, met-by}
 use Rattle.step.proofs.declaring.enter_meet.Statement.{statement}
 use Rattle.step.proofs.declaring.enter_meet.Tie as tie
@@ -20,48 +21,44 @@ to c = stationOf (start-of c .args .e .station)
 abbrev sender : tie.After-in-force → Station
 sender c = stationOf (start-of c .args .e .sender)
 
-in-force-requires : tie.Need-in-force-requires
-in-force-requires c κs = search needs
-
-returns : tie.Need-returns
-returns c =
-    let force = c .before .before .before in
-    meet-out-of-force (start-of force .args .words .now) (to force) (sender force) (start-of force .args .e .number)
-    (sym (force .in-force .ensures) ∙ not-true (force .in-force .result) (c .before .before .if1 .taken)) (c .refuse .ensures)
-
-meet-requires : tie.Need-meet-requires
-meet-requires c κs = search needs
+abbrev number : tie.After-in-force → ℕ
+number c = start-of c .args .e .number
 
 on : (c : tie.Else1) → sectionIn (start-of (c .before) .args .words .now) .force ≡ true
 on c = sym (c .before .in-force .ensures) ∙ not-false (c .before .in-force .result) (c .if1 .left)
 
-returns-2 : tie.Need-returns-2
-returns-2 c =
-    let meet = c .before .before .before in
-    let force = meet .before .before .before in
-    meet-refused (start-of force .args .words .now) (to force) (sender force) (start-of force .args .e .number) (on (meet .before .before))
-    (met-by (force .before .before .before .station-of .ensures) (force .before .before .station-of2 .ensures) (not-true (meet .meet .result) (c .before .before .if2 .taken)) (meet .meet .ensures))
-    (c .refuse2 .ensures)
+out-of-force : tie.Need-returns
+out-of-force c =
+    let test = c .before .before in
+    let force = test .before in
+    meet-out-of-force (start-of force .args .words .now) (to force) (sender force) (number force)
+    (sym (force .in-force .ensures) ∙ not-true (force .in-force .result) (test .if1 .taken)) (c .refuse .ensures)
 
-returns-3 : tie.Need-returns-3
-returns-3 c =
-    let meet = c .before .before in
+refused : tie.Need-returns-2
+refused c =
+    let test = c .before .before in
+    let meet = test .before in
     let force = meet .before .before .before in
-    meet-allowed (start-of force .args .words .now) (to force) (sender force) (start-of force .args .e .number) (on (meet .before .before))
-    (met-by (force .before .before .before .station-of .ensures) (force .before .before .station-of2 .ensures) (not-false (meet .meet .result) (c .before .if2 .left)) (meet .meet .ensures))
-    (c .accepted .ensures)
+    let sent = force .before .before in
+    meet-refused (start-of force .args .words .now) (to force) (sender force) (number force) (on (meet .before .before))
+    (met-by (sent .before .station-of .ensures) (sent .station-of2 .ensures) (not-true (meet .meet .result) (test .if2 .taken)) (meet .meet .ensures)) (c .refuse2 .ensures)
+
+meets : tie.Need-returns-3
+meets c =
+    let test = c .before in
+    let meet = test .before in
+    let force = meet .before .before .before in
+    let sent = force .before .before in
+    meet-allowed (start-of force .args .words .now) (to force) (sender force) (number force) (on (meet .before .before))
+    (met-by (sent .before .station-of .ensures) (sent .station-of2 .ensures) (not-false (meet .meet .result) (test .if2 .left)) (meet .meet .ensures)) (c .accepted .ensures)
 
 pub enter-meet-spec : {M : Type 1} → statement M
 enter-meet-spec =
     tie.close
     (tie.spec
+    (λ c κs. search needs) (λ c κs. search needs) (λ c κs. search needs) (λ c κs. search needs)
+    out-of-force
+    (λ c κs. search needs) (λ c κs. search needs)
+    refused
     (λ c κs. search needs)
-    (λ c κs. search needs)
-    in-force-requires
-    (λ c κs. search needs)
-    returns
-    meet-requires
-    (λ c κs. search needs)
-    returns-2
-    (λ c κs. search needs)
-    returns-3)
+    meets)

@@ -16,21 +16,13 @@ verdict-is c =
     let present = c .before in
     sym (c .resume-verdict .ensures ∙ ap₂ (λ (f : Bool) (n : ℕ). firstOf (resumeTests f n)) (present .before .before .in-force .ensures) (present .present .ensures))
 
-returns : tie.Need-returns
-returns c =
-    let told = c .before .before .before in
-    declared-refused false (verdict-is (told .before .before) ∙ told .verdict .given .1) (c .refuse .ensures)
-
-returns-2 : tie.Need-returns-2
-returns-2 c =
-    let told = c .before .before .before in
-    declared-allowed false (verdict-is (told .before .before) ∙ told .enum-told .given .1) (c .accepted .ensures) (c .before .empty .ensures)
-
 pub enter-resume-spec : {M : Type 1} → statement M
 enter-resume-spec =
     tie.close
     (tie.spec
     (λ c κs. search needs) (λ c κs. search needs) (λ c κs. search needs) (λ c. search needs) (λ c κs. search needs)
-    returns
+    (λ c. let told = c .before .before .before in declared-refused false (verdict-is (told .before .before) ∙ told .verdict .given .1) (c .refuse .ensures))
     (λ c. search needs) (λ c κs. search needs) (λ c κs. search needs)
-    returns-2)
+    (λ c.
+    let told = c .before .before .before in
+    declared-allowed false (verdict-is (told .before .before) ∙ told .enum-told .given .1) (c .accepted .ensures) (c .before .empty .ensures)))

@@ -30,7 +30,9 @@ arrive-other-requires c κs = c .before .before .before .before .pre .0
 returns-2 : tie.Need-returns-2
 returns-2 c =
     let test = c .before .before in
-    let other : eqb (test .before .before .before .args .v .sender) (numberAt (test .before .before .before .args .at)) ≡ false = rw (← test .before .before .station-number .ensures) (ne-eqb _ _ (test .if1 .left)) in
+    let number = test .before .before in
+    let a = number .before .args in
+    let other : eqb (a .v .sender) (numberAt (a .at)) ≡ false = rw (← number .station-number .ensures) (ne-eqb _ _ (test .if1 .left)) in
     rw other (c .arrive-other .ensures)
 
 pub arrive-spec : {M : Type 1} → statement M

@@ -37,12 +37,6 @@ passed c =
     pass (looked (first-of c)) {v = c .receive-verdict .result} (c .before .before .before .enum-told .given .1)
     (rw (← c .before .nearest .ensures, ← sender-of (first-of c) .station-of2 .ensures) (c .receive-verdict .ensures))
 
-returns : tie.Need-returns
-returns c = let told = c .before .before .before in first-refused (looked (told .before .before)) (told .verdict .given .1) (c .refuse .ensures)
-
-returns-2 : tie.Need-returns-2
-returns-2 c = let told = c .before .before .before in own-refused (passed (told .before .before)) (told .own .given .1) (c .refuse2 .ensures)
-
 arrive-requires : tie.Need-arrive-requires
 arrive-requires c κs =
     let removed = c .before in
@@ -54,8 +48,8 @@ arrive-requires c κs =
     let none = none-holds tests (sym (own .receive-verdict .ensures) ∙ told .enum-told2 .given .1) in
     (l .desk-is ∙ sym (desk-behind (l .at) (removeAt (l .at)) (λ start. startOn (l .at) start 1) (removed .remove .ensures)), not-false _ (none .1 .0))
 
-returns-3 : tie.Need-returns-3
-returns-3 c =
+receives : tie.Need-returns-3
+receives c =
     let taken = c .before in
     let removed = taken .before .before in
     let told = removed .before .before in
@@ -76,10 +70,10 @@ enter-receive-spec =
     tie.close
     (tie.spec
     (λ c κs. search needs) (λ c κs. search needs) (λ c κs. search needs) (λ c κs. search needs) (λ c κs. search needs) (λ c. search needs) (λ c κs. search needs)
-    returns
+    (λ c. let told = c .before .before .before in first-refused (looked (told .before .before)) (told .verdict .given .1) (c .refuse .ensures))
     (λ c. search needs) (λ c κs. search needs) (λ c κs. search needs) (λ c. search needs) (λ c κs. search needs)
-    returns-2
+    (λ c. let told = c .before .before .before in own-refused (passed (told .before .before)) (told .own .given .1) (c .refuse2 .ensures))
     (λ c. search needs) (λ c κs. search needs)
     arrive-requires
     (λ c κs. search needs)
-    returns-3)
+    receives)

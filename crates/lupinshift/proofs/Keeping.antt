@@ -2,12 +2,13 @@
 -- A call with too few words, and one with enough: `begins-none`, `begins`, `fills-none`, `fills`.
 -- Assumes nothing.
 use Prim.Native.Nat.{_+_, _<_, _≤_, ℕ}
-use Rattle.lupinshift.specs.State.{Begins, FillsOn, Holds, listingAt, stateWords}
-use Rattle.step.specs.Lines.{FillsIn, begun, listingIn}
+use Rattle.lupinshift.specs.State.{Begins, FillsOn, Keeps, figureWords, listedAt, listingAt, stateWords}
+use Rattle.step.specs.Lines.{FillsWords, startOf}
 use Rattle.step.specs.declared.lines.Listed.{Listed}
-use Rattle.step.specs.declared.lines.Listing.{Listing}
-use Rattle.words.specs.Words.{sectionIn, wordCount}
+use Rattle.step.specs.declared.lines.Put.{Put}
+use Rattle.words.specs.Words.{OwnWords, wordCount}
 use Rattle.working.specs.Entries.{pasted}
+use Rattle.working.specs.Sections.{fresh}
 use Rattle.working.specs.WellMade.{oneIf}
 use borrow.Author.Tests.{ltb-false, ltb-true}
 use lib.Dec.{eqb}
@@ -56,19 +57,21 @@ one-back true = refl
 one-back false = refl
 
 pub holds : (l : Listed) (words section after : List ℕ) → length section ≡ wordCount → stateWords ≤ length words
-    → after ≡ (section ++ (l .at ∷ l .left ∷ l .entries ∷ l .accepted ∷ oneIf (l .ended) ∷ [])) ++ drop stateWords words → Holds (listingIn l (sectionIn section)) words after
+    → after ≡ (section ++ figureWords l) ++ drop stateWords words → Keeps section l words after
 unfolding listingAt
 holds l words section after size room e =
-    let numbers : List ℕ = l .at ∷ l .left ∷ l .entries ∷ l .accepted ∷ oneIf (l .ended) ∷ [] in
-    let rest : List ℕ = numbers ++ drop stateWords words in
-    let shape : after ≡ section ++ rest = e ∙ append-assoc section numbers (drop stateWords words) in
+    let rest : List ℕ = figureWords l ++ drop stateWords words in
+    let shape : after ≡ section ++ rest = e ∙ append-assoc section (figureWords l) (drop stateWords words) in
     let front : take wordCount after ≡ section = rw shape (take-at section rest wordCount size) in
     let behind : drop wordCount after ≡ rest = rw shape (drop-at section rest wordCount size) in
     let number : (k : ℕ) → getD after (wordCount + k) 0 ≡ getD rest k 0 = λ k. sym (getD-drop wordCount after k 0) ∙ ap (λ (x : List ℕ). getD x k 0) behind in
     record {
-      listing = rw (front, number 0, number 1, number 2, number 3, number 4, one-back (l .ended));
-      size = ap length shape ∙ simp (length-append, length-drop) (omega arith);
-      behind = sym (drop-drop 5 wordCount after) ∙ ap (drop 5) behind;
+      holds = record {
+        listing = rw (front, number 0, number 1, number 2, number 3, number 4, one-back (l .ended));
+        figures = behind;
+        size = ap length shape ∙ simp (length-append, length-drop) (omega arith);
+      };
+      front = front;
     }
 
 -- ---- the calls
@@ -76,17 +79,26 @@ holds l words section after size room e =
 pub begins-none : {log words : List ℕ} → length words < stateWords → Begins log words 0 words
 begins-none {words = words} few = record { short = λ e. (refl, refl); begins = λ e. absurd (omega (arith, ltb-false (length words) stateWords e)) }
 
-pub begins : {log words after : List ℕ} → stateWords ≤ length words → Holds (begun log) words after → Begins log words stateWords after
-begins {words = words} enough h = record { short = λ e. absurd (omega (arith, ltb-true (length words) stateWords e)); begins = λ e. (refl, h) }
-
-pub fills-none : {words log out : List ℕ} → length words < stateWords → FillsOn words log out 0 words out
-fills-none {words} few = record {
-  short = λ e. (refl, refl, refl);
-  count = λ e. absurd (omega (arith, ltb-false (length words) stateWords e));
-  left = λ e. absurd (omega (arith, ltb-false (length words) stateWords e));
-  state = λ e. absurd (omega (arith, ltb-false (length words) stateWords e));
+pub begins : {log words after section : List ℕ} → stateWords ≤ length words → OwnWords section fresh → Keeps section (startOf (length log)) words after
+    → Begins log words stateWords after
+begins {words = words} enough own k = record {
+  short = λ e. absurd (omega (arith, ltb-true (length words) stateWords e));
+  begins = λ e. record { count = refl; state = rw (own .section) at (k .holds); own = k .front ∙ own .words };
 }
 
-pub fills : {words log out words₁ out₁ : List ℕ} {count : ℕ} {l : Listing} → stateWords ≤ length words → FillsIn log (listingAt words) out count l out₁ → Holds l words words₁
-    → FillsOn words log out count words₁ out₁
-fills {words} enough f h = record { short = λ e. absurd (omega (arith, ltb-true (length words) stateWords e)); count = λ e. f .counted; left = λ e. f .left; state = λ e. rw (f .listing) at h }
+pub fills-none : {words log out : List ℕ} → length words < stateWords → FillsOn words log out 0 words out
+fills-none {words} few = record { short = λ e. (refl, refl, refl); fills = λ e. absurd (omega (arith, ltb-false (length words) stateWords e)) }
+
+pub fills : {words log out section words₁ out₁ : List ℕ} {r : Put} → stateWords ≤ length words → FillsWords log (take wordCount words) (listedAt words) out r section out₁
+    → Keeps section (r .listed) words words₁ → FillsOn words log out (r .behind) words₁ out₁
+unfolding listingAt
+fills {words} enough f k = record {
+  short = λ e. absurd (omega (arith, ltb-true (length words) stateWords e));
+  fills = λ e. record {
+    count = f .fills .counted;
+    left = f .fills .left;
+    state = rw (f .fills .listing) at (k .holds);
+    section = rw (k .front) (f .words);
+    kept = λ ill. k .front ∙ f .kept ill;
+  };
+}

@@ -1,8 +1,7 @@
 // Where a listing stands, kept in words that a host lends: specs/State.antt says what listing they stand for.
 ghost use Prim.Native.Nat.{_+_, _≤_};
-ghost use Rattle.lupinshift.specs.State.{Holds, listedAt, stateWords};
-ghost use Rattle.step.specs.Lines.{listingIn};
-ghost use Rattle.words.specs.Words.{sectionIn, wordCount};
+ghost use Rattle.lupinshift.specs.State.{Keeps, listedAt, stateWords};
+ghost use Rattle.words.specs.Words.{wordCount};
 ghost use Rattle.working.specs.Entries.{pasted};
 ghost use Rattle.working.specs.WellMade.{oneIf};
 ghost use lib.ListN.{drop, length, take};
@@ -66,10 +65,10 @@ fn word_if(test: bool) -> u64
     if test { 1 } else { 0 }
 }
 
-// The words made to stand for a listing. Those behind keep their values.
+// A section's words, and where its listing stands, put into the words lent. Those behind keep their values.
 pub(crate) fn keep(words: &mut [u64], section: &Words, listed: Listed)
     requires { ⌜ stateWords ≤ length (now words) ⌝ }
-    ensures { λ _. ⌜ Holds (listingIn listed (sectionIn (now (section .entry)))) (now (words .entry)) (now (words .exit)) ⌝ }
+    ensures { λ _. ⌜ Keeps (now (section .entry)) listed (now (words .entry)) (now (words .exit)) ⌝ }
 {
     copy(section, 0, words, 0, WORDS);
     words[AT] = listed.at as u64;

@@ -1,7 +1,7 @@
 -- A well-made section is its own line padded: the places past the vehicles present are blank, and a blank place is the unused one.
 -- Assumes nothing.
-use Prim.Native.Nat.{suc, zero, ℕ}
-use Rattle.words.specs.Words.{vehiclesIn, sectionIn}
+use Prim.Native.Nat.{_≤_, suc, zero, ℕ}
+use Rattle.words.specs.Words.{Becomes, Own, sectionIn, startIn, vehiclesIn, wordsOf}
 use Rattle.working.proofs.Clauses.{section-made}
 use Rattle.working.proofs.Made.{length-vehicles, length-padTo}
 use Rattle.working.proofs.Tests.{both, each-holds}
@@ -16,7 +16,7 @@ use lib.Dec.{eqb}
 use lib.ListN.{drop, length, take}
 use mathlib.Core.Bool.{Bool, false, false≢true, not, true}
 use mathlib.Core.List.{List, [], _∷_}
-use mathlib.Core.Path.{_≡_, ap, ap₂, refl, sym}
+use mathlib.Core.Path.{_∙_, _≡_, ap, ap₂, refl, sym}
 use native.Mathlib.Omega.{arith}
 
 blank-movement : (m : Movement) → isBlankMovement m ≡ true → m ≡ Open 0
@@ -54,3 +54,11 @@ own-vehicles s long well = rw (padded 24 (s .len) (s .vehicles) long (section-ma
 pub long-in : (w : List ℕ) → length (sectionIn w .vehicles) ≡ 24
 unfolding sectionIn
 long-in w = length-padTo 24 (vehiclesIn w)
+
+-- ---- words that are a section's own stay so
+
+pub own-after : {w v : List ℕ} {s : Section} {k : ℕ} → Becomes w v s k → s .len ≤ 24 → Own w → Own v
+own-after b few own = b .own few own ∙ sym (ap₂ wordsOf (b .section) (b .start))
+
+pub becomes-of : {w v : List ℕ} {s : Section} {k : ℕ} → sectionIn v ≡ s → startIn v ≡ k → (Own w → Own v) → Becomes w v s k
+becomes-of section start kept = record { section = section; start = start; own = λ few own. kept own ∙ ap₂ wordsOf section start }

@@ -13,7 +13,7 @@ returns-2 c =
     let keep = c .before .before in
     let start = keep .before in
     let fresh = start .before .before .before in
-    begins (fresh .before .if1 .left) (rw (start .start-of .ensures, fresh .fresh-words .ensures .section) at (keep .keep .ensures))
+    begins (fresh .before .if1 .left) (fresh .fresh-words .ensures) (rw (start .start-of .ensures) at (keep .keep .ensures))
 
 pub lupin-begin-spec : {M : Type 1} → statement M
 lupin-begin-spec = tie.close (tie.spec returns (λ c κs. search needs) (λ c κs. search needs) (λ c κs. search needs) (λ c. search needs) returns-2)

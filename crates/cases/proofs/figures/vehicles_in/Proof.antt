@@ -26,6 +26,6 @@ loop-again c =
 pub vehicles-in-spec : {M : Type 1} → statement M
 vehicles-in-spec =
     tie.close
-    (tie.spec Inv-loop μ-loop (λ c κs. search needs) (λ c. (search needs, search needs, λ k h. absurd (omega arith))) (λ c. search needs) (λ c κs. search needs) (λ c. search needs) (λ c. search needs) (λ c. search needs) (λ c. search needs) loop-again (λ c.
-    let l = c .before .loop in
-    all-places _ (l .places) (l .inv .1) (λ k h. l .inv .2 k (omega arith))))
+    (tie.spec Inv-loop μ-loop (λ c κs. search needs) (λ c. (search needs, search needs, λ k h. absurd (omega arith))) (λ c. search needs) (λ c κs. search needs)
+    (λ c. search needs) (λ c. search needs) (λ c. search needs) (λ c. search needs) loop-again
+    (λ c. let l = c .before .loop in all-places _ (l .places) (l .inv .1) (λ k h. l .inv .2 k (omega arith))))

@@ -18,4 +18,5 @@ slice-aggregate-write-front c =
 pub run-write-spec : {M : Type 1} → statement M
 run-write-spec =
     tie.close
-    (tie.spec (λ c. search needs) (λ c κs. search needs) (λ c. search needs) (λ c κs. search needs) (λ c κs. search needs) (λ c. search needs) slice-aggregate-write-front (λ c κs. search needs) (λ c. search needs) (λ c. search needs))
+    (tie.spec (λ c. search needs) (λ c κs. search needs) (λ c. search needs) (λ c κs. search needs) (λ c κs. search needs) (λ c. search needs)
+    slice-aggregate-write-front (λ c κs. search needs) (λ c. search needs) (λ c. search needs))

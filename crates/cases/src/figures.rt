@@ -3,7 +3,7 @@ ghost use Prim.Native.Nat.{_*_, _+_, _≤_};
 ghost use Rattle.cases.specs.Figures.{clearsAt, deskAt, entryIn, intervalOf, movementOf, numberAt, placesAt, sectionIn, vehicleAt};
 ghost use lib.ListN.{length};
 ghost use mathlib.Core.Path.{_≡_};
-use crate::input::number;
+use crate::input::number_at;
 use crate::input::wide;
 use working::Clears;
 use working::Desk;
@@ -23,14 +23,6 @@ const REFUSED: usize = 218;
 const DESK_A: usize = 222;
 
 const DESK_B: usize = 235;
-
-// The number at a place, high byte first.
-pub(crate) fn number_at(figures: &[u8; 250], at: usize) -> u16
-    requires { ⌜ at + 2 ≤ 250 ⌝ }
-    ensures { λ r. ⌜ r ≡ numberAt (now (figures .entry)) at ⌝ }
-{
-    number(figures[at], figures[at + 1])
-}
 
 // What a vehicle left on: kind 0, the unused place, is the OPEN that asks for nothing.
 fn movement_in(kind: u8, asked: u8, granted: u8) -> Movement
@@ -223,11 +215,10 @@ fn desk_figures(desk: Desk) -> [u8; 13] {
 }
 
 // Vehicles present, in force, and the count of refused entries.
-fn count_figures(s: Section) -> [u8; 6] {
-    let refused = s.refused;
+fn count_figures(present: usize, force: bool, refused: u32) -> [u8; 6] {
     [
-        (s.len % 256) as u8,
-        one_if(s.force),
+        (present % 256) as u8,
+        one_if(force),
         (refused / 16777216) as u8,
         (refused / 65536 % 256) as u8,
         (refused / 256 % 256) as u8,
@@ -247,10 +238,9 @@ pub(crate) fn put_bytes(room: &mut [u8], at: usize, bytes: &[u8])
 }
 
 // The 24 places, at the front of the figures.
-fn put_vehicles(figures: &mut [u8], s: Section)
+fn put_vehicles(figures: &mut [u8], places: [Vehicle; Section::PLACES])
     requires { ⌜ 248 ≤ length (now figures) ⌝ }
 {
-    let places = s.vehicles;
     let mut i = 0;
     while i < Section::PLACES {
         put_bytes(figures, i * 9, &vehicle_figures(places[i]));
@@ -261,10 +251,15 @@ fn put_vehicles(figures: &mut [u8], s: Section)
 // The section's figures, well made or not.
 pub(crate) fn figures_of(s: Section) -> [u8; 248] {
     let mut figures = [0u8; 248];
+    let places = s.vehicles;
     let a = s.a;
     let b = s.b;
-    put_vehicles(&mut figures, s);
-    put_bytes(&mut figures, PRESENT, &count_figures(s));
+    put_vehicles(&mut figures, places);
+    put_bytes(
+        &mut figures,
+        PRESENT,
+        &count_figures(s.len, s.force, s.refused),
+    );
     put_bytes(&mut figures, DESK_A, &desk_figures(a));
     put_bytes(&mut figures, DESK_B, &desk_figures(b));
     figures

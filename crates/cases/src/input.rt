@@ -1,5 +1,6 @@
 // A case on standard input: what it is, its head, whose last two bytes are a length, and so many bytes behind them.
 ghost use Prim.Native.Nat.{_*_, _+_, _<_, _≤_};
+ghost use Rattle.cases.specs.Figures.{numberAt};
 ghost use Rattle.io.specs.Counts.{Counts};
 ghost use lib.ListN.{length};
 ghost use mathlib.Core.Path.{_≡_};
@@ -19,10 +20,18 @@ pub(crate) fn wide(byte: u8) -> u64
 }
 
 // The number that two bytes stand for, high byte first.
-pub(crate) fn number(high: u8, low: u8) -> u16
+fn number(high: u8, low: u8) -> u16
     ensures { λ r. ⌜ r ≡ high * 256 + low ⌝ }
 {
     (high as u16) * 256 + low as u16
+}
+
+// The number at a place, high byte first.
+pub(crate) fn number_at(head: &[u8; 250], at: usize) -> u16
+    requires { ⌜ at + 2 ≤ 250 ⌝ }
+    ensures { λ r. ⌜ r ≡ numberAt (now (head .entry)) at ⌝ }
+{
+    number(head[at], head[at + 1])
 }
 
 // Reads so many bytes to the front of the room, where it has room for them; how many came.
@@ -67,7 +76,7 @@ pub(crate) fn read_case(head: &mut [u8; 250], room: &mut [u8]) -> Case
     if read_bytes(head, size) < size {
         return Case { kind: 0, count: 0 };
     }
-    let length = number(head[size - 2], head[size - 1]) as usize;
+    let length = number_at(head, size - 2) as usize;
     let count = read_bytes(room, length);
     Case {
         kind: if count < length { 0 } else { kind },

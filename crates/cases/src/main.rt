@@ -3,8 +3,8 @@
 ghost use Prim.Native.Nat.{_≤_};
 ghost use lib.ListN.{length};
 use figures::entry_in;
-use figures::number_at;
 use figures::section_in;
+use input::number_at;
 use input::read_case;
 use logs::run_log;
 use logs::run_position;

@@ -1,10 +1,10 @@
-// A section in figures: the 248 bytes of docs/CASES.md.
+// A section in figures: the 248 bytes of docs/CASES.md, at the front of a case's head.
 ghost use Prim.Native.Nat.{_*_, _+_, _≤_};
 ghost use Rattle.cases.specs.Figures.{clearsAt, deskAt, entryIn, intervalOf, movementOf, numberAt, placesAt, sectionIn, vehicleAt};
 ghost use lib.ListN.{length};
 ghost use mathlib.Core.Path.{_≡_};
-use crate::input::number;
-use crate::text::put_bytes;
+use crate::input::number_at;
+use crate::input::wide;
 use working::Clears;
 use working::Desk;
 use working::Entry;
@@ -24,14 +24,6 @@ const DESK_A: usize = 222;
 
 const DESK_B: usize = 235;
 
-// The number at a place, high byte first.
-fn number_at(figures: &[u8], at: usize) -> u16
-    requires { ⌜ at + 2 ≤ length (now figures) ⌝ }
-    ensures { λ r. ⌜ r ≡ numberAt (now (figures .entry)) at ⌝ }
-{
-    number(figures[at], figures[at + 1])
-}
-
 // What a vehicle left on: kind 0, the unused place, is the OPEN that asks for nothing.
 fn movement_in(kind: u8, asked: u8, granted: u8) -> Movement
     ensures { λ r. ⌜ r ≡ movementOf kind asked granted ⌝ }
@@ -49,8 +41,8 @@ fn movement_in(kind: u8, asked: u8, granted: u8) -> Movement
 }
 
 // The nine bytes of a place.
-fn vehicle_in(figures: &[u8], at: usize) -> Vehicle
-    requires { ⌜ at + 9 ≤ length (now figures) ⌝ }
+fn vehicle_in(figures: &[u8; 250], at: usize) -> Vehicle
+    requires { ⌜ at + 9 ≤ 250 ⌝ }
     ensures { λ r. ⌜ r ≡ vehicleAt (now (figures .entry)) at ⌝ }
 {
     Vehicle {
@@ -64,8 +56,7 @@ fn vehicle_in(figures: &[u8], at: usize) -> Vehicle
 }
 
 // The 24 places.
-fn vehicles_in(figures: &[u8]) -> [Vehicle; Section::PLACES]
-    requires { ⌜ 248 ≤ length (now figures) ⌝ }
+fn vehicles_in(figures: &[u8; 250]) -> [Vehicle; Section::PLACES]
     ensures { λ r. ⌜ r ≡ placesAt 24 (now (figures .entry)) 0 ⌝ }
 {
     let mut places = [Vehicle::unused(); Section::PLACES];
@@ -88,8 +79,8 @@ fn interval_in(running: u8, minute: u16) -> Interval
 }
 
 // The three bytes of the line clears at a desk.
-fn clears_in(figures: &[u8], at: usize) -> Clears
-    requires { ⌜ at + 3 ≤ length (now figures) ⌝ }
+fn clears_in(figures: &[u8; 250], at: usize) -> Clears
+    requires { ⌜ at + 3 ≤ 250 ⌝ }
     ensures { λ r. ⌜ r ≡ clearsAt (now (figures .entry)) at ⌝ }
 {
     Clears {
@@ -100,8 +91,8 @@ fn clears_in(figures: &[u8], at: usize) -> Clears
 }
 
 // The thirteen bytes of a desk.
-fn desk_in(figures: &[u8], at: usize) -> Desk
-    requires { ⌜ at + 13 ≤ length (now figures) ⌝ }
+fn desk_in(figures: &[u8; 250], at: usize) -> Desk
+    requires { ⌜ at + 13 ≤ 250 ⌝ }
     ensures { λ r. ⌜ r ≡ deskAt (now (figures .entry)) at ⌝ }
 {
     Desk {
@@ -116,8 +107,7 @@ fn desk_in(figures: &[u8], at: usize) -> Desk
 }
 
 // The count of refused entries, four bytes.
-fn refused_in(figures: &[u8]) -> u32
-    requires { ⌜ 248 ≤ length (now figures) ⌝ }
+fn refused_in(figures: &[u8; 250]) -> u32
     ensures { λ r. ⌜ r ≡ numberAt (now (figures .entry)) 218 * 65536 + numberAt (now (figures .entry)) 220 ⌝ }
 {
     let high = number_at(figures, REFUSED);
@@ -126,13 +116,12 @@ fn refused_in(figures: &[u8]) -> u32
 }
 
 // The section that the figures say, well made or not.
-pub(crate) fn section_in(figures: &[u8]) -> Section
-    requires { ⌜ 248 ≤ length (now figures) ⌝ }
+pub(crate) fn section_in(figures: &[u8; 250]) -> Section
     ensures { λ r. ⌜ r ≡ sectionIn (now (figures .entry)) ⌝ }
 {
     Section {
         vehicles: vehicles_in(figures),
-        len: figures[PRESENT] as usize,
+        len: wide(figures[PRESENT]) as usize,
         force: figures[FORCE] == 1,
         refused: refused_in(figures),
         a: desk_in(figures, DESK_A),
@@ -141,20 +130,20 @@ pub(crate) fn section_in(figures: &[u8]) -> Section
 }
 
 // An entry's map and fields, absent ones too.
-pub(crate) fn entry_in(head: [u8; 16]) -> Entry
-    ensures { λ r. ⌜ r ≡ entryIn head ⌝ }
+pub(crate) fn entry_in(head: &[u8; 250]) -> Entry
+    ensures { λ r. ⌜ r ≡ entryIn (now (head .entry)) ⌝ }
 {
     Entry {
         map: head[0],
         kind: head[1],
         station: head[2],
-        time: number(head[3], head[4]),
+        time: number_at(head, 3),
         view: head[5],
         class: head[6],
         asked: head[7],
         granted: head[8],
         sender: head[9],
-        number: number(head[10], head[11]),
+        number: number_at(head, 10),
     }
 }
 
@@ -226,11 +215,10 @@ fn desk_figures(desk: Desk) -> [u8; 13] {
 }
 
 // Vehicles present, in force, and the count of refused entries.
-fn count_figures(s: Section) -> [u8; 6] {
-    let refused = s.refused;
+fn count_figures(present: usize, force: bool, refused: u32) -> [u8; 6] {
     [
-        (s.len % 256) as u8,
-        one_if(s.force),
+        (present % 256) as u8,
+        one_if(force),
         (refused / 16777216) as u8,
         (refused / 65536 % 256) as u8,
         (refused / 256 % 256) as u8,
@@ -238,34 +226,51 @@ fn count_figures(s: Section) -> [u8; 6] {
     ]
 }
 
-// The 24 places at the front of the figures; the place behind them.
-fn put_vehicles(figures: &mut [u8], s: Section) -> usize {
-    let places = s.vehicles;
-    let mut at = 0;
+// Bytes put one behind the other, the first of them at a place.
+pub(crate) fn put_bytes(room: &mut [u8], at: usize, bytes: &[u8])
+    requires { ⌜ at + length (now bytes) ≤ length (now room) ⌝ }
+{
     let mut i = 0;
-    while i < Section::PLACES {
-        at = put_bytes(figures, at, &vehicle_figures(places[i]));
+    while i < bytes.len() {
+        room[at + i] = bytes[i];
         i += 1;
     }
-    at
+}
+
+// The 24 places, at the front of the figures.
+fn put_vehicles(figures: &mut [u8], places: [Vehicle; Section::PLACES])
+    requires { ⌜ 248 ≤ length (now figures) ⌝ }
+{
+    let mut i = 0;
+    while i < Section::PLACES {
+        put_bytes(figures, i * 9, &vehicle_figures(places[i]));
+        i += 1;
+    }
 }
 
 // The section's figures, well made or not.
-pub(crate) fn put_section(figures: &mut [u8], s: Section) {
+pub(crate) fn figures_of(s: Section) -> [u8; 248] {
+    let mut figures = [0u8; 248];
+    let places = s.vehicles;
     let a = s.a;
     let b = s.b;
-    let at = put_vehicles(figures, s);
-    let at = put_bytes(figures, at, &count_figures(s));
-    let at = put_bytes(figures, at, &desk_figures(a));
-    put_bytes(figures, at, &desk_figures(b));
+    put_vehicles(&mut figures, places);
+    put_bytes(
+        &mut figures,
+        PRESENT,
+        &count_figures(s.len, s.force, s.refused),
+    );
+    put_bytes(&mut figures, DESK_A, &desk_figures(a));
+    put_bytes(&mut figures, DESK_B, &desk_figures(b));
+    figures
 }
 
 // The digest of a section's figures.
-pub(crate) fn digest(figures: &[u8]) -> u64 {
+pub(crate) fn digest(figures: &[u8; 248]) -> u64 {
     let mut sum: u64 = 0;
     let mut i = 0;
-    while i < figures.len() {
-        sum = (sum * 31 + figures[i] as u64) % 4294967296;
+    while i < 248 {
+        sum = (sum * 31 + wide(figures[i])) % 4294967296;
         i += 1;
     }
     sum

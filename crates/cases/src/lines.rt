@@ -1,12 +1,11 @@
 // The lines that say what came of a case.
 use crate::figures::digest;
-use crate::figures::put_section;
-use crate::text::put;
-use crate::text::put_bytes;
-use crate::text::put_figure;
-use crate::text::put_hex;
-use crate::text::put_number;
-use crate::text::put_numbers;
+use crate::figures::figures_of;
+use crate::text::write;
+use crate::text::write_figure;
+use crate::text::write_hex;
+use crate::text::write_number;
+use crate::text::write_numbers;
 use working::Answer;
 use working::Entry;
 use working::Read;
@@ -15,29 +14,39 @@ use working::Speed;
 use working::Stepped;
 use working::Written;
 
-fn put_refusal(text: &mut [u8], at: usize, number: u8) -> usize {
-    let at = put_bytes(text, at, b" no");
-    put_number(text, at, number as u64)
+// A word, a number of the case, and the end of the line.
+pub(crate) fn write_length(word: &[u8], length: usize) {
+    write_figure(word, length as u64);
+    write(b"\n");
+}
+
+// A word, two numbers of the case, and the end of the line.
+pub(crate) fn write_place(word: &[u8], place: usize, length: usize) {
+    write_figure(word, place as u64);
+    write_length(b"", length);
+}
+
+fn write_refusal(number: u8) {
+    write_figure(b" no", number as u64);
 }
 
 // A speed as the lister prints it.
-fn put_speed(text: &mut [u8], at: usize, speed: Speed) -> usize {
+fn write_speed(speed: Speed) {
     match speed {
-        Speed::NoSpeed => put_bytes(text, at, b" -"),
-        Speed::Walking => put_bytes(text, at, b" W"),
-        Speed::Kmh(kmh) => put_number(text, at, kmh as u64),
-        Speed::Booked => put_bytes(text, at, b" B"),
+        Speed::NoSpeed => write(b" -"),
+        Speed::Walking => write(b" W"),
+        Speed::Kmh(kmh) => write_number(kmh as u64),
+        Speed::Booked => write(b" B"),
     }
 }
 
-fn put_answer(text: &mut [u8], at: usize, answer: Answer) -> usize {
+fn write_answer(answer: Answer) {
     match answer {
-        Answer::Refused(why) => put_refusal(text, at, why.number()),
+        Answer::Refused(why) => write_refusal(why.number()),
         Answer::Accepted { form, forms, speed } => {
-            let at = put_bytes(text, at, b" ok");
-            let at = put_number(text, at, form as u64);
-            let at = put_number(text, at, forms as u64);
-            put_speed(text, at, speed)
+            write_figure(b" ok", form as u64);
+            write_number(forms as u64);
+            write_speed(speed);
         }
     }
 }
@@ -58,71 +67,56 @@ fn entry_fields(e: Entry) -> [u64; 10] {
     ]
 }
 
-fn put_entry(text: &mut [u8], at: usize, e: Entry) -> usize {
-    let at = put_bytes(text, at, b" entry");
-    put_numbers(text, at, &entry_fields(e))
+fn write_fields(e: Entry) {
+    write(b" entry");
+    write_numbers(&entry_fields(e));
 }
 
-fn put_read(text: &mut [u8], at: usize, read: Read) -> usize {
+fn write_read(read: Read) {
     match read {
-        Read::End => put_bytes(text, at, b" end"),
-        Read::Whole(e, _) => put_entry(text, at, e),
-        Read::Refused(_, _) => put_refusal(text, at, read.number()),
+        Read::End => write(b" end"),
+        Read::Whole(e, _) => write_fields(e),
+        Read::Refused(_, _) => write_refusal(read.number()),
     }
 }
 
 // `at`, a position, what a reader reads there, `next`, and where it then stands.
-pub(crate) fn put_position(
-    text: &mut [u8],
-    at: usize,
-    position: usize,
-    read: Read,
-    next: usize,
-) -> usize {
-    let at = put_figure(text, at, b"at", position);
-    let at = put_read(text, at, read);
-    let at = put_figure(text, at, b" next", next);
-    put(text, at, b'\n')
+pub(crate) fn write_seen(position: usize, read: Read, next: usize) {
+    write_figure(b"at", position as u64);
+    write_read(read);
+    write_length(b" next", next);
 }
 
 // A word and an answer.
-pub(crate) fn put_answered(text: &mut [u8], at: usize, word: &[u8], answer: Answer) -> usize {
-    let at = put_bytes(text, at, word);
-    let at = put_answer(text, at, answer);
-    put(text, at, b'\n')
+pub(crate) fn write_answered(word: &[u8], answer: Answer) {
+    write(word);
+    write_answer(answer);
+    write(b"\n");
 }
 
 // A word, an answer, and the digest of the section after it.
-pub(crate) fn put_stepped(text: &mut [u8], at: usize, word: &[u8], after: Stepped) -> usize {
+pub(crate) fn write_stepped(word: &[u8], after: Stepped) {
     let s = after.section;
     let answer = after.answer;
-    let mut figures = [0u8; 248];
-    put_section(&mut figures, s);
-    let at = put_bytes(text, at, word);
-    let at = put_answer(text, at, answer);
-    let at = put_number(text, at, digest(&figures));
-    put(text, at, b'\n')
+    write(word);
+    write_answer(answer);
+    write_number(digest(&figures_of(s)));
+    write(b"\n");
 }
 
 // A word and a section's figures.
-pub(crate) fn put_figures(text: &mut [u8], at: usize, word: &[u8], s: Section) -> usize {
-    let mut figures = [0u8; 248];
-    put_section(&mut figures, s);
-    put_hex(text, at, word, &figures)
-}
-
-fn put_outcome(text: &mut [u8], at: usize, written: Written) -> usize {
-    let number = written.number();
-    if number == 0 {
-        put_figure(text, at, b" filled", written.filled_on(0))
-    } else {
-        put_refusal(text, at, number)
-    }
+pub(crate) fn write_section(word: &[u8], s: Section) {
+    write_hex(word, &figures_of(s));
 }
 
 // A word and what the writer answered.
-pub(crate) fn put_written(text: &mut [u8], at: usize, word: &[u8], written: Written) -> usize {
-    let at = put_bytes(text, at, word);
-    let at = put_outcome(text, at, written);
-    put(text, at, b'\n')
+pub(crate) fn write_written(word: &[u8], written: Written) {
+    let number = written.number();
+    write(word);
+    if number == 0 {
+        write_figure(b" filled", written.filled_on(0) as u64);
+    } else {
+        write_refusal(number);
+    }
+    write(b"\n");
 }

@@ -2,7 +2,14 @@
 // docs/CASES.md has the two formats. The second program wrote the cases, and `stdout` is what it says must come of them.
 ghost use Prim.Native.Nat.{_≤_};
 ghost use lib.ListN.{length};
-use libc::STDIN_FILENO;
+use figures::entry_in;
+use figures::section_in;
+use input::number_at;
+use input::read_case;
+use logs::run_log;
+use logs::run_position;
+use steps::run_step;
+use written::run_write;
 
 mod figures;
 mod input;
@@ -14,31 +21,41 @@ mod steps;
 mod text;
 mod written;
 
-// Runs the next case, whose bytes are read into the room lent; says whether there was a whole one.
-fn run_next(room: &mut [u8], text: &mut [u8]) -> bool
-    requires { ⌜ length (now room) ≤ 4096 ⌝ }
+// Runs a case of which the head and the bytes were read.
+fn run_case(kind: u8, head: &[u8; 250], bytes: &mut [u8])
+    requires { ⌜ length (now bytes) ≤ 4096 ⌝ }
 {
-    let mut first = [0u8; 1];
-    if io::read_full(STDIN_FILENO, &mut first) < 1 {
-        return false;
-    }
-    let case = first[0];
-    match case {
-        1 => logs::run_log(room, text),
-        2 => steps::run_step(room, text),
-        3 => written::run_write(room, text),
-        4 => logs::run_position(room, text),
-        _ => false,
+    match kind {
+        1 => run_log(bytes),
+        2 => run_step(section_in(head), bytes),
+        3 => run_write(bytes, number_at(head, 12) as usize, entry_in(head)),
+        _ => run_position(number_at(head, 0) as usize, bytes),
     }
 }
 
-// Runs at most 65,536 cases. The longest text is that of a case with two buffers of 4,096 bytes in hex.
+// Runs the next case, whose bytes are read into the room lent; says whether there was a whole one.
+fn run_next(room: &mut [u8]) -> bool
+    requires { ⌜ length (now room) ≤ 4096 ⌝ }
+{
+    let mut head = [0u8; 250];
+    let case = read_case(&mut head, room);
+    let count = case.count;
+    if case.kind == 0 {
+        return false;
+    }
+    run_case(case.kind, &head, &mut room[..count]);
+    true
+}
+
+// Runs at most 65,536 cases.
 fn main() {
     let mut room = [0u8; 4096];
-    let mut text = [0u8; 20480];
     let mut cases = 0usize;
     while cases < 65536 {
-        let more = run_next(&mut room, &mut text);
-        cases = if more { cases + 1 } else { 65536 };
+        cases = if run_next(&mut room) {
+            cases + 1
+        } else {
+            65536
+        };
     }
 }

@@ -18,30 +18,6 @@ four (a ∷ b ∷ c ∷ []) e = absurd (omega arith)
 four (a ∷ b ∷ c ∷ d ∷ []) e = omega arith
 four (a ∷ b ∷ c ∷ d ∷ x ∷ xs) e = absurd (omega arith)
 
-array-read-pair : tie.Need-array-read-pair
-array-read-pair c = search needs
-
-array-read-pair-2 : tie.Need-array-read-pair-2
-array-read-pair-2 c = search needs
-
-pair-requires : tie.Need-pair-requires
-pair-requires c κs = search needs
-
-mul-length : tie.Need-mul-length
-mul-length c = search needs
-
-array-read-pair-3 : tie.Need-array-read-pair-3
-array-read-pair-3 c = search needs
-
-array-read-pair-4 : tie.Need-array-read-pair-4
-array-read-pair-4 c = search needs
-
-pair-requires-2 : tie.Need-pair-requires-2
-pair-requires-2 c κs = search needs
-
-add-length : tie.Need-add-length
-add-length c = search needs
-
 -- the sum in the code is the number that the bytes stand for
 summed : (c : tie.After-pair2) → valueOf (c .before .before .args .t1) ≡ c .before .pair .result * 65536 + c .pair2 .result
 summed c =
@@ -49,23 +25,8 @@ summed c =
     let long : length bytes ≡ 4 = search needs in
     four bytes long ∙ rw (c .before .pair .ensures .0, c .pair2 .ensures .0) refl
 
-returns : tie.Need-returns
-returns c = omega (arith, summed (c .before), c .if1 .taken)
-
-returns-2 : tie.Need-returns-2
-returns-2 c = omega (arith, summed (c .before), c .if1 .left)
-
 pub packed-length-spec : {M : Type 1} → statement M
 packed-length-spec =
     tie.close
-    (tie.spec
-    array-read-pair
-    array-read-pair-2
-    pair-requires
-    mul-length
-    array-read-pair-3
-    array-read-pair-4
-    pair-requires-2
-    add-length
-    returns
-    returns-2)
+    (tie.spec (λ c. search needs) (λ c. search needs) (λ c κs. search needs) (λ c. search needs) (λ c. search needs) (λ c. search needs) (λ c κs. search needs)
+    (λ c. search needs) (λ c. omega (arith, summed (c .before))) (λ c. omega (arith, summed (c .before))))

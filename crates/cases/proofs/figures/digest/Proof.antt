@@ -4,54 +4,15 @@ use Prim.Native.Nat.{_-_, _<_, _≤_}
 use Rattle.cases.proofs.figures.digest.Statement.{statement}
 use Rattle.cases.proofs.figures.digest.Tie as tie
 use borrow.Author.Needs.{needs}
-use native.Mathlib.Omega.{arith}
-use lib.ListN.{length}
 
 abbrev Inv-loop : tie.InvT-loop
-Inv-loop figures sum₀ i₀ sum i = (i ≤ length figures) × (sum < 4294967296)
+Inv-loop figures sum₀ i₀ sum i = (i ≤ 248) × (sum < 4294967296)
 
 abbrev μ-loop : tie.MeasureT-loop
-μ-loop figures sum₀ i₀ sum i = length figures - i
-
-loop-holds : tie.Need-loop-holds Inv-loop μ-loop
-loop-holds c = search needs
-
-mul-sum : tie.Need-mul-sum Inv-loop μ-loop
-mul-sum c = search needs
-
-shared-slice-read-sum : tie.Need-shared-slice-read-sum Inv-loop μ-loop
-shared-slice-read-sum c = search needs
-
-cast-sum : tie.Need-cast-sum Inv-loop μ-loop
-cast-sum c = omega (arith, c .shared-slice-known .given (c .before .before .loop .i))
-
-add-sum : tie.Need-add-sum Inv-loop μ-loop
-add-sum c = omega (arith, c .shared-slice-known .given (c .before .before .loop .i))
-
-add-i : tie.Need-add-i Inv-loop μ-loop
-add-i c = search needs
-
-loop-less : tie.Need-loop-less Inv-loop μ-loop
-loop-less c = search needs
-
-loop-again : tie.Need-loop-again Inv-loop μ-loop
-loop-again c = search needs
-
-returns : tie.Need-returns Inv-loop μ-loop
-returns c = search needs
+μ-loop figures sum₀ i₀ sum i = 248 - i
 
 pub digest-spec : {M : Type 1} → statement M
 digest-spec =
     tie.close
-    (tie.spec
-    Inv-loop
-    μ-loop
-    loop-holds
-    mul-sum
-    shared-slice-read-sum
-    cast-sum
-    add-sum
-    add-i
-    loop-less
-    loop-again
-    returns)
+    (tie.spec Inv-loop μ-loop (λ c. search needs) (λ c. search needs) (λ c. search needs) (λ c κs. search needs) (λ c. search needs) (λ c. search needs)
+    (λ c. search needs) (λ c. search needs) (λ c. search needs))

@@ -17,57 +17,15 @@ Inv-loop figures places₀ i₀ places i = (i ≤ 24) × (length places ≡ 24) 
 abbrev μ-loop : tie.MeasureT-loop
 μ-loop figures places₀ i₀ places i = 24 - i
 
-unused-requires : tie.Need-unused-requires Inv-loop μ-loop
-unused-requires c κs = search needs
-
-loop-holds : tie.Need-loop-holds Inv-loop μ-loop
-loop-holds c = (search needs, search needs, λ k h. absurd (omega arith))
-
-mul-vehicle-in : tie.Need-mul-vehicle-in Inv-loop μ-loop
-mul-vehicle-in c = search needs
-
-vehicle-in-requires : tie.Need-vehicle-in-requires Inv-loop μ-loop
-vehicle-in-requires c κs = search needs
-
-mul-places : tie.Need-mul-places Inv-loop μ-loop
-mul-places c = search needs
-
-array-set-from-places : tie.Need-array-set-from-places Inv-loop μ-loop
-array-set-from-places c = search needs
-
-add-i : tie.Need-add-i Inv-loop μ-loop
-add-i c = search needs
-
-loop-less : tie.Need-loop-less Inv-loop μ-loop
-loop-less c = search needs
-
 loop-again : tie.Need-loop-again Inv-loop μ-loop
 loop-again c =
-    let l = c .before .before .loop in
-    let figures = c .before .before .before .before .before .args .figures .now in (
-      omega arith,
-      simp length-set (l .inv .1),
-      place-more figures (l .places) (l .i) (c .vehicle-in .result) (omega arith) (l .inv .2) (sym (c .vehicle-in .ensures)),
-    )
-
-returns : tie.Need-returns Inv-loop μ-loop
-returns c =
-    let l = c .before .loop in
-    all-places (c .before .before .before .before .args .figures .now) (l .places) (l .inv .1) (λ k h. l .inv .2 k (omega arith))
+    let turn = c .before .before in
+    let l = turn .loop in
+    (omega arith, simp length-set (l .inv .1), place-more (turn .before .before .args .figures .now) (l .places) (l .i) (c .vehicle-in .result) (omega arith) (l .inv .2) (sym (c .vehicle-in .ensures)))
 
 pub vehicles-in-spec : {M : Type 1} → statement M
 vehicles-in-spec =
     tie.close
-    (tie.spec
-    Inv-loop
-    μ-loop
-    unused-requires
-    loop-holds
-    mul-vehicle-in
-    vehicle-in-requires
-    mul-places
-    array-set-from-places
-    add-i
-    loop-less
-    loop-again
-    returns)
+    (tie.spec Inv-loop μ-loop (λ c κs. search needs) (λ c. (search needs, search needs, λ k h. absurd (omega arith))) (λ c. search needs) (λ c κs. search needs)
+    (λ c. search needs) (λ c. search needs) (λ c. search needs) (λ c. search needs) loop-again
+    (λ c. let l = c .before .loop in all-places _ (l .places) (l .inv .1) (λ k h. l .inv .2 k (omega arith))))

@@ -10,35 +10,14 @@ use mathlib.Core.List.{_++_}
 use mathlib.Core.Path.{sym}
 use native.Mathlib.Omega.{arith}
 
-returns : tie.Need-returns
-returns c = search needs
-
-slice-relend-prefix-read-full : tie.Need-slice-relend-prefix-read-full
-slice-relend-prefix-read-full c = search needs
-
-slice-aggregate-read-full : tie.Need-slice-aggregate-read-full
-slice-aggregate-read-full c = sym (length-take-le _ _ (omega arith))
-
-read-full-requires : tie.Need-read-full-requires
-read-full-requires c κs = search needs
-
-same-length : tie.Need-same-length
-same-length c = search needs
-
 returns-2 : tie.Need-returns-2
 returns-2 c =
     let read = c .before .before .read-full in
-    let start = c .before .before .before .before .before .before in
-    let inside : read .result ≤ length (read .last .1 .0 ++ drop (start .args .count) (start .args .room .now)) = simp length-append (omega (arith, read .ensures .0)) in
+    let args = c .before .before .before .before .before .before .args in
+    let inside : read .result ≤ length (read .last .1 .0 ++ drop (args .count) (args .room .now)) = simp length-append (omega (arith, read .ensures .0)) in
     (inside, sym (length-take-le _ _ inside))
 
 pub read-bytes-spec : {M : Type 1} → statement M
 read-bytes-spec =
     tie.close
-    (tie.spec
-    returns
-    slice-relend-prefix-read-full
-    slice-aggregate-read-full
-    read-full-requires
-    same-length
-    returns-2)
+    (tie.spec (λ c. search needs) (λ c. search needs) (λ c. sym (length-take-le _ _ (omega arith))) (λ c κs. search needs) (λ c. search needs) returns-2)

@@ -29,15 +29,11 @@ returns c =
     let start = c .before in
     counted (start .args .got) _ _ (rw (toZ-ofZ w64 (start .args .got) (start .fits .got)) at (c .if1 .taken))
 
-returns-2 : tie.Need-returns-2
-returns-2 c =
-    let start = c .before .before in
-    rw (← (told (start .args .got) (start .args .interrupted) (start .args .count) (rw (toZ-ofZ w64 (start .args .got) (start .fits .got)) at (c .before .if1 .left))), c .if2 .taken)
-
-returns-3 : tie.Need-returns-3
-returns-3 c =
-    let start = c .before .before in
-    rw (← (told (start .args .got) (start .args .interrupted) (start .args .count) (rw (toZ-ofZ w64 (start .args .got) (start .fits .got)) at (c .before .if1 .left))), c .if2 .left)
+-- past the test the answer is negative
+negative : (c : tie.Else1) → cond (c .before .args .interrupted) Interrupted Failed ≡ cameBy (c .before .args .got) (c .before .args .interrupted) (c .before .args .count)
+negative c =
+    let start = c .before in
+    told (start .args .got) _ _ (rw (toZ-ofZ w64 (start .args .got) (start .fits .got)) at (c .if1 .left))
 
 pub answered-spec : {M : Type 1} → statement M
-answered-spec = tie.close (tie.spec returns returns-2 returns-3)
+answered-spec = tie.close (tie.spec returns (λ c. rw (← (negative (c .before)), c .if2 .taken)) (λ c. rw (← (negative (c .before)), c .if2 .left)))

@@ -10,18 +10,9 @@ use native.Mathlib.Omega.{arith}
 enum-told : tie.Need-enum-told
 enum-told c = search needs
 
-enum-told-2 : tie.Need-enum-told-2
-enum-told-2 c = search needs
-
 returns : tie.Need-returns
 unfolding behindRead
 returns c = rw (c .before .enum-told2 .given .1, eq-eqb _ 0 (c .if1 .taken))
-
-sub-t9 : tie.Need-sub-t9
-sub-t9 c = search needs
-
-enum-known-one : tie.Need-enum-known-one
-enum-known-one c = search needs
 
 returns-2 : tie.Need-returns-2
 unfolding behindRead
@@ -45,4 +36,4 @@ unfolding behindRead
 returns-5 c = rw (c .before .before .one .given .1, ne-eqb _ 0 (c .if2 .left))
 
 pub behind-spec : {M : Type 1} → statement M
-behind-spec = tie.close (tie.spec enum-told enum-told-2 returns sub-t9 enum-known-one returns-2 add-t12 returns-3 returns-4 returns-5)
+behind-spec = tie.close (tie.spec enum-told (λ c. search needs) returns (λ c. search needs) (λ c. search needs) returns-2 add-t12 returns-3 returns-4 returns-5)

@@ -45,80 +45,43 @@ follows done patience Interrupted room inside = by (eqb patience 0) refl
     by false t = let some = eqb-false patience 0 t in (omega arith, omega arith)
 follows done patience Failed room inside = tt
 
+-- the turn that a read is made in, and the read that is judged
+abbrev turn : tie.After-read-some Inv-loop μ-loop → tie.At-loop Inv-loop μ-loop
+turn read = read .before .before .before
+
+abbrev judged : tie.After-slice-known2 Inv-loop μ-loop → tie.After-read-some Inv-loop μ-loop
+judged c = c .before .before
+
 -- a read brings no more than there is room for
-brought : (c : tie.After-read-some Inv-loop μ-loop) → Within (c .read-some .result) (mostRead - c .before .before .before .loop .done)
+brought : (c : tie.After-read-some Inv-loop μ-loop) → Within (c .read-some .result) (mostRead - turn c .loop .done)
 brought c =
-    let turn = c .before .before .before .loop in
-    rw (mid-len (turn .done) (length (turn .room)) (turn .room) (le-refl _), turn .inv .0) at (c .read-some .ensures)
+    let l = turn c .loop in
+    rw (mid-len (l .done) (length (l .room)) (l .room) (le-refl _), l .inv .0) at (c .read-some .ensures)
 
-followed : (c : tie.After-behind Inv-loop μ-loop) → Follows (c .before .before .before .before .before .before .loop .done) (c .before .before .before .before .before .before .loop .patience) (c .behind .result)
+followed : (c : tie.After-behind Inv-loop μ-loop) → Follows (turn (judged (c .before)) .loop .done) (turn (judged (c .before)) .loop .patience) (c .behind .result)
 followed c =
-    let read = c .before .before .before in
-    let turn = read .before .before .before .loop in
-    rw (c .behind .ensures) (follows (turn .done) (turn .patience) (read .read-some .result) (omega (arith, turn .inv, read .before .before .loop-test .taken)) (brought read))
-
-loop-holds : tie.Need-loop-holds Inv-loop μ-loop
-loop-holds c = search needs
-
-sub-read-some : tie.Need-sub-read-some Inv-loop μ-loop
-sub-read-some c = search needs
-
-part-read-some-start : tie.Need-part-read-some-start Inv-loop μ-loop
-part-read-some-start c = search needs
-
-part-read-some-end : tie.Need-part-read-some-end Inv-loop μ-loop
-part-read-some-end c = search needs
-
-read-some-requires : tie.Need-read-some-requires Inv-loop μ-loop
-read-some-requires c κs = search needs
+    let read = judged (c .before) in
+    let l = turn read .loop in
+    let room : l .done < mostRead = omega (arith, l .inv, read .before .before .loop-test .taken) in
+    rw (c .behind .ensures) (follows (l .done) (l .patience) (read .read-some .result) room (brought read))
 
 behind-requires : tie.Need-behind-requires Inv-loop μ-loop
-behind-requires c κs = (c .before .before .before .before .before .loop .inv .1, brought (c .before .before))
-
-enum-known-next : tie.Need-enum-known-next Inv-loop μ-loop
-enum-known-next c = search needs
-
-same-length : tie.Need-same-length Inv-loop μ-loop
-same-length c = search needs
-
-returns : tie.Need-returns Inv-loop μ-loop
-returns c = rw (c .before .next .given .1) at (followed (c .before .before .before))
-
-enum-known-next-2 : tie.Need-enum-known-next-2 Inv-loop μ-loop
-enum-known-next-2 c = search needs
-
-loop-less : tie.Need-loop-less Inv-loop μ-loop
-loop-less c = rw (c .before .next2 .given .1) at (followed (c .before .before .before)) .1
+behind-requires c κs =
+    let read = judged c in
+    (turn read .loop .inv .1, brought read)
 
 loop-again : tie.Need-loop-again Inv-loop μ-loop
 loop-again c =
-    let read = c .before .before .before .before .before .before in
-    let turn = read .before .before .before .loop in
-    (same-len-mid (turn .done) (length (turn .room) - turn .done) (turn .room) (read .read-some .last .0) (read .read-some .kept .0) ∙ turn .inv .0, rw (c .before .next2 .given .1) at (followed (c .before .before .before)) .0)
-
-same-length-2 : tie.Need-same-length-2 Inv-loop μ-loop
-same-length-2 c = search needs
-
-returns-2 : tie.Need-returns-2 Inv-loop μ-loop
-returns-2 c = search needs
+    let came = c .before .before .before in
+    let read = judged (came .before) in
+    let l = turn read .loop in (
+      same-len-mid (l .done) (length (l .room) - l .done) (l .room) (read .read-some .last .0) (read .read-some .kept .0) ∙ l .inv .0,
+      rw (c .before .next2 .given .1) at (followed came) .0,
+    )
 
 pub read-log-spec : {M : Type 1} → statement M
 read-log-spec =
     tie.close
-    (tie.spec
-    Inv-loop
-    μ-loop
-    loop-holds
-    sub-read-some
-    part-read-some-start
-    part-read-some-end
-    read-some-requires
-    behind-requires
-    enum-known-next
-    same-length
-    returns
-    enum-known-next-2
-    loop-less
-    loop-again
-    same-length-2
-    returns-2)
+    (tie.spec Inv-loop μ-loop (λ c. search needs) (λ c. search needs) (λ c. search needs) (λ c. search needs) (λ c κs. search needs) behind-requires
+    (λ c. search needs) (λ c. search needs) (λ c. rw (c .before .next .given .1) at (followed (c .before .before .before))) (λ c. search needs)
+    (λ c. rw (c .before .next2 .given .1) at (followed (c .before .before .before)) .1) loop-again (λ c. search needs) (λ c. search needs))

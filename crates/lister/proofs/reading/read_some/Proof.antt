@@ -16,21 +16,6 @@ within (pos n) interrupted count room inside = inside
 within (negsuc n) true count room inside = tt
 within (negsuc n) false count room inside = tt
 
-read-requires : tie.Need-read-requires
-read-requires c κs = search needs
-
-errno-requires : tie.Need-errno-requires
-errno-requires c κs = search needs
-
-count-requires : tie.Need-count-requires
-count-requires c κs = search needs
-
-answered-requires : tie.Need-answered-requires
-answered-requires c κs = search needs
-
-same-length : tie.Need-same-length
-same-length c = search needs
-
 returns : tie.Need-returns
 returns c =
     let counted = c .before in
@@ -39,6 +24,4 @@ returns c =
     rw (c .answered .ensures) (within _ _ (counted .count .result) (length (start .args .rest .now)) (omega (arith, counted .count .ensures .0 .0, read .read .kept .1 .0)))
 
 pub read-some-spec : {M : Type 1} → statement M
-read-some-spec =
-    tie.close
-    (tie.spec read-requires errno-requires count-requires answered-requires same-length returns)
+read-some-spec = tie.close (tie.spec (λ c κs. search needs) (λ c κs. search needs) (λ c κs. search needs) (λ c κs. search needs) (λ c. search needs) returns)

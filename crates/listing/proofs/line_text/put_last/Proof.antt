@@ -46,15 +46,5 @@ returns-3 c =
 pub put-last-spec : {M : Type 1} → statement M
 put-last-spec =
     tie.close
-    (tie.spec
-    (λ c κs. search needs)
-    returns
-    (λ c. search needs)
-    put-bytes-requires
-    (λ c. search needs)
-    returns-2
-    (λ c κs. search needs)
-    (λ c. search needs)
-    put-end-requires
-    (λ c. search needs)
-    returns-3)
+    (tie.spec (λ c κs. search needs) returns (λ c. search needs) put-bytes-requires (λ c. search needs) returns-2 (λ c κs. search needs) (λ c. search needs)
+    put-end-requires (λ c. search needs) returns-3)

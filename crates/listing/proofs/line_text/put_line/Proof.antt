@@ -22,5 +22,4 @@ returns-2 : tie.Need-returns-2
 returns-2 c = line-not-put (sym (c .before .room-for-line .ensures) ∙ c .if1 .left)
 
 pub put-line-spec : {M : Type 1} → statement M
-put-line-spec =
-    tie.close (tie.spec (λ c κs. search needs) put-entry-requires (λ c. search needs) returns returns-2)
+put-line-spec = tie.close (tie.spec (λ c κs. search needs) put-entry-requires (λ c. search needs) returns returns-2)

@@ -17,6 +17,4 @@ returns-2 c =
     (rw (le-ltb _ _ (digit .before .before .if1 .left), ← digit .last-digit .ensures) (put .put .ensures), search needs)
 
 pub put-digit-spec : {M : Type 1} → statement M
-put-digit-spec =
-    tie.close
-    (tie.spec returns (λ c. search needs) (λ c κs. search needs) (λ c κs. search needs) (λ c. search needs) returns-2)
+put-digit-spec = tie.close (tie.spec returns (λ c. search needs) (λ c κs. search needs) (λ c κs. search needs) (λ c. search needs) returns-2)

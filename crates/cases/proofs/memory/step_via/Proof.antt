@@ -19,7 +19,7 @@ use ghost.Atoms.{Atoms, sem}
 use contract.Monad.{Fun, fact}
 use contract.Running.{givenOf, tables, tablesOf}
 use types.Kit.{Given, ‵, raw, some, later, _⊛_, ⋆, _$_, _∵_, !, qed, by, move, keep}
-use types.Kit.{drop, use1, use3, split, join, pick, rewrite, fsplit, fjoin, fpick, fpack, suffices, frame, await, done}
+use types.Kit.{Item, drop, use1, use3, split, join, pick, rewrite, fsplit, fjoin, fpick, fpack, suffices, frame, await, done}
 use types.Run.{look, init, forget, stop, from, load, addr, of-opd, and-then, no-more, assigns, land, returns, enter, alloc1, alloc0, params1, pass1, pass0, free1, free0}
 use types.Part.{agg}
 use types.Tokens.{lft-new, lft-end}
@@ -85,8 +85,8 @@ tied r u is = subst (Is N.the-row r) (EL.tells N.the-type N′.the-laws r (u ∷
 abbrev StepInPlace : {M : Type 1} (𝓤 : URA M) (H : Heap 𝓤) (A : Atoms 𝓤) (mem : Memory → SProp 𝓤) (run : Routine → Fun 𝓤) → Contract 𝓤
 StepInPlace 𝓤 H A mem run = tripleOf 𝓤 H A step-in-place.signature (step-in-place.spec 𝓤 H A mem run)
 
-module _ {M : Type 1} (𝓤 : URA M) (H : Heap 𝓤) (A : Atoms 𝓤) (W : Given 𝓤 H A) (at-mem : Memory → SProp 𝓤) (run : Routine
-    → Fun 𝓤) (κ : Lft) (q : Share) (h : Section) (s : RefT (List ℕ)) where
+module _ {M : Type 1} (𝓤 : URA M) (H : Heap 𝓤) (A : Atoms 𝓤) (W : Given 𝓤 H A) (at-mem : Memory → SProp 𝓤) (run : Routine → Fun 𝓤)
+    (κ : Lft) (q : Share) (h : Section) (s : RefT (List ℕ)) where
   abbrev v : Val
   v = sliceVal (s .ptr) (length (s .now))
 
@@ -96,8 +96,18 @@ module _ {M : Type 1} (𝓤 : URA M) (H : Heap 𝓤) (A : Atoms 𝓤) (W : Given
   abbrev found : Stepped
   found = stepOf h (s .now)
 
+  -- this function's contract as the walk has it, what is passed, and what it is to end with
+  abbrev Walk : Contract 𝓤
+  Walk = walkOf 𝓤 H A step-via.ended stayed (step-via.clauses 𝓤 H A at-mem run)
+
+  abbrev passed : Walk .Ghost
+  passed = (((κ, tt), (q, tt), tt, (h, (s, tt)), vals), tt)
+
   abbrev Post : Val → SProp 𝓤
-  Post = walkOf 𝓤 H A step-via.ended stayed (step-via.clauses 𝓤 H A at-mem run) .post (((κ, tt), (q, tt), tt, (h, (s, tt)), vals), tt)
+  Post = Walk .post passed
+
+  abbrev token : Item 𝓤
+  token = ‵ (flft κ q) ⊛ ‵ ftrue
 
   abbrev Own : Fml
   Own = ShrSlice (named 0) κ u8 .own s (v ∷ [])
@@ -117,19 +127,19 @@ module _ {M : Type 1} (𝓤 : URA M) (H : Heap 𝓤) (A : Atoms 𝓤) (W : Given
   abbrev to : ℕ → ℕ → GName → StepInPlace 𝓤 H A at-mem run .Ghost
   to l ν δ = (((ν ∷ [], (κ, tt)), (fullShare, (q, tt)), tt, (x l δ, (s, tt)), (vptr l 0 ∷ [], (v ∷ [], tt))), tt)
 
-  goes : (l ν : ℕ) (δ : GName) → ent 𝓤 (⋆ 𝓤 H A ((‵ (flft (ν ∷ []) fullShare) ⊛ ‵ (MutRef (named 0) (ν ∷ []) T.the-row .own (x l δ) (vptr l 0 ∷ []))) ∷ ‵ Own ∷ (‵
-      (flft κ q) ⊛ ‵ ftrue) ∷ [])) (StepInPlace 𝓤 H A at-mem run .pre (to l ν δ))
+  -- the reference, with its lifetime's token
+  abbrev lent : ℕ → ℕ → GName → Item 𝓤
+  lent l ν δ = ‵ (flft (ν ∷ []) fullShare) ⊛ ‵ (MutRef (named 0) (ν ∷ []) T.the-row .own (x l δ) (vptr l 0 ∷ []))
+
+  goes : (l ν : ℕ) (δ : GName) → ent 𝓤 (⋆ 𝓤 H A (lent l ν δ ∷ ‵ Own ∷ token ∷ [])) (StepInPlace 𝓤 H A at-mem run .pre (to l ν δ))
   goes l ν δ =
-      qed W ((‵ (flft (ν ∷ []) fullShare) ⊛ ‵ (MutRef (named 0) (ν ∷ []) T.the-row .own (x l δ) (vptr l 0 ∷ []))) ∷ ‵ Own ∷ (‵ (flft κ q) ⊛ ‵ ftrue) ∷ []) ∵
+      qed W (lent l ν δ ∷ ‵ Own ∷ token ∷ []) ∵
       split ! $ nothing ! $ move ! (3 ∷ 0 ∷ []) $ fjoin ! $ move ! (2 ∷ 0 ∷ []) $ fjoin ! $ move ! (1 ∷ 2 ∷ []) $ join ! $ join ! $ frame ! $ done !
 
-  exits : (r : Stepped) → Is T.the-row h (val h ∷ []) → Is R.the-row r (ret r ∷ []) → r ≡ found → ent 𝓤 (⋆ 𝓤 H A ((‵ (flft κ q) ⊛ ‵ ftrue) ∷ ‵ Own ∷ [])) (Post (ret r))
+  exits : (r : Stepped) → Is T.the-row h (val h ∷ []) → Is R.the-row r (ret r ∷ []) → r ≡ found → ent 𝓤 (⋆ 𝓤 H A (token ∷ ‵ Own ∷ [])) (Post (ret r))
   exits r g is e =
-      qed W ((‵ (flft κ q) ⊛ ‵ ftrue) ∷ ‵ Own ∷ []) ∵
-      suffices ! _ (ends-at 𝓤 H A step-via.ended stayed (step-via.clauses 𝓤 H A at-mem run) W (((κ, tt), (q, tt), tt, (h, (s, tt)), vals), tt) (ret r) r (tt, (tt, tt)) (
-        tt,
-        (tt, tt),
-      )) $ says ! e $
+      qed W (token ∷ ‵ Own ∷ []) ∵
+      suffices ! _ (ends-at 𝓤 H A step-via.ended stayed (step-via.clauses 𝓤 H A at-mem run) W passed (ret r) r (tt, (tt, tt)) (tt, (tt, tt))) $ says ! e $
       frame ! $ nothing ! $ move ! (1 ∷ 0 ∷ []) $ fjoin ! $ owned ! T.the-row (Is T.the-row) (LL.makes T.the-type T′.the-plain 𝓤 H A) h _ g $ fjoin ! $ frame ! $
       owned ! R.the-row (Is R.the-row) (LL.makes R.the-type R′.the-plain 𝓤 H A) r _ is $ done !
 
@@ -139,7 +149,7 @@ module _ {M : Type 1} (𝓤 : URA M) (H : Heap 𝓤) (A : Atoms 𝓤) (W : Given
     unfolding partOf
     walk g p =
         let wt = LL.lawful T.the-type T′.the-laws 𝓤 H A W .typed h _ g .0 in
-        qed W ((‵ (flft κ q) ⊛ ‵ ftrue) ∷ ‵ (owns (T.the-row ∷ ShrSlice (named 0) κ u8 ∷ []) (h, (s, tt)) vals) ∷ []) ∵ enter ! C Λ code.function (val h ∷ v ∷ []) _ $
+        qed W (token ∷ ‵ (owns (T.the-row ∷ ShrSlice (named 0) κ u8 ∷ []) (h, (s, tt)) vals) ∷ []) ∵ enter ! C Λ code.function (val h ∷ v ∷ []) _ $
         alloc1 ! (λ l₀. alloc1 ! (λ l₁. alloc1 ! (λ l₂. alloc1 ! (λ l₃. alloc1 ! (λ l₄. alloc1 ! (λ l₅. alloc1 ! (λ l₆. alloc0 ! $ params1 ! $ pass1 ! (init ! 10 refl wt) $
         pass1 ! (init ! 8 refl (shr-slice-lawful 𝓤 H A W (named 0) κ u8 .typed s (v ∷ []) p .0)) $ pass0 ! $
         assigns ! (of-opd ! (load ! (from ! (stop !)) (look ! 10 refl))) (from ! (stop !)) (init ! 6 refl wt) $

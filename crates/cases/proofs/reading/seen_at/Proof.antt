@@ -115,8 +115,12 @@ module _ {M : Type 1} (𝓤 : URA M) (H : Heap 𝓤) (A : Atoms 𝓤) (W : Given
   abbrev token : Item 𝓤
   token = ‵ (flft κ q) ⊛ ‵ ftrue
 
+  -- the call of `Reader::at` is passed what this function is
+  abbrev to-at : At 𝓤 H A mem run .Ghost
+  to-at = (((κ, tt), (q, tt), tt, (s, (n, tt)), argVals reader), tt)
+
   abbrev Post : Val → SProp 𝓤
-  Post = walkOf 𝓤 H A seen.ended stayed (seen.clauses 𝓤 H A mem run) .post (((κ, tt), (q, tt), tt, (s, (n, tt)), argVals reader), tt)
+  Post = walkOf 𝓤 H A seen.ended stayed (seen.clauses 𝓤 H A mem run) .post to-at
 
   -- a call is handed the log, and the log is kept
   kept : (Pre : SProp 𝓤) → ent 𝓤 (⋆ 𝓤 H A (token ∷ ‵ (LogOwn κ s) ∷ [])) Pre → ent 𝓤 (⋆ 𝓤 H A (token ∷ ‵ (LogOwn κ s) ∷ [])) (sep 𝓤 Pre (sem 𝓤 H A (LogOwn κ s)))
@@ -132,9 +136,6 @@ module _ {M : Type 1} (𝓤 : URA M) (H : Heap 𝓤) (A : Atoms 𝓤) (W : Given
   goes-new =
       kept (New 𝓤 H A mem run .pre to-new)
       (qed W (token ∷ ‵ (LogOwn κ s) ∷ []) ∵ nothing ! $ move ! (2 ∷ 0 ∷ []) $ fjoin ! $ move ! (1 ∷ 0 ∷ []) $ join ! $ frame ! $ done !)
-
-  abbrev to-at : At 𝓤 H A mem run .Ghost
-  to-at = (((κ, tt), (q, tt), tt, (s, (n, tt)), argVals reader), tt)
 
   goes-at : ent 𝓤 (⋆ 𝓤 H A (token ∷ ‵ (LogOwn κ s) ∷ [])) (sep 𝓤 (At 𝓤 H A mem run .pre to-at) (sem 𝓤 H A (LogOwn κ s)))
   goes-at =
@@ -202,10 +203,7 @@ module _ {M : Type 1} (𝓤 : URA M) (H : Heap 𝓤) (A : Atoms 𝓤) (W : Given
   exits : (r : Seen) → Is R.the-row r (ret r ∷ []) → r ≡ seenIn (now s) n → ent 𝓤 (⋆ 𝓤 H A (token ∷ ‵ (LogOwn κ s) ∷ [])) (Post (ret r))
   exits r is e =
       qed W (token ∷ ‵ (LogOwn κ s) ∷ []) ∵
-      suffices ! _ (ends-at 𝓤 H A seen.ended stayed (seen.clauses 𝓤 H A mem run) W (((κ, tt), (q, tt), tt, (s, (n, tt)), argVals reader), tt) (ret r) r (tt, (tt, tt)) (
-        tt,
-        (tt, tt),
-      )) $ says ! e $
+      suffices ! _ (ends-at 𝓤 H A seen.ended stayed (seen.clauses 𝓤 H A mem run) W to-at (ret r) r (tt, (tt, tt)) (tt, (tt, tt))) $ says ! e $
       frame ! $ nothing ! $ owned ! usize (Is usize) (uint-makes 𝓤 H A W w64) n _ (refl, ok) $ fjoin ! $ move ! (1 ∷ 0 ∷ []) $ fjoin ! $ frame ! $
       owned ! R.the-row (Is R.the-row) (LL.makes R.the-type R′.the-plain 𝓤 H A) r _ is $ done !
 
@@ -217,8 +215,8 @@ module _ {M : Type 1} (𝓤 : URA M) (H : Heap 𝓤) (A : Atoms 𝓤) (W : Given
         let held-law = LL.lawful (T.the-type (held κ)) (T′.the-laws (held κ)) 𝓤 H A W in
         let read-law = EL.lawful S.the-type S′.the-laws 𝓤 H A W tt in
         qed W (token ∷ ‵ (ArgsOwn κ reader) ∷ []) ∵ enter ! C Λ code.function (logVal s ∷ vint w64 n ∷ []) _ $
-        alloc1 ! (λ l₀. alloc1 ! (λ l₁. alloc1 ! (λ l₂. alloc1 ! (λ l₃. alloc1 ! (λ l₄. alloc1 ! (λ l₅. alloc1 ! (λ l₆. alloc1 ! (λ l₇. alloc1 ! (λ l₈. alloc1 !
-        (λ l₉. alloc0 ! $ params1 ! $
+        alloc1 ! (λ l₀. alloc1 ! (λ l₁. alloc1 ! (λ l₂. alloc1 ! (λ l₃. alloc1 ! (λ l₄. alloc1 ! (λ l₅. alloc1 ! (λ l₆. alloc1 ! (λ l₇. alloc1 ! (λ l₈.
+        alloc1 ! (λ l₉. alloc0 ! $ params1 ! $
         pass1 ! (init ! 16 refl (shr-slice-lawful 𝓤 H A W (named 0) κ u8 .typed s (logVal s ∷ []) p .0)) $ pass1 ! (init ! 14 refl (tt, record { fits = ok })) $ pass0 ! $
         move ! (21 ∷ []) $ fsplit ! $ move ! (1 ∷ []) $ drop ! $ move ! (21 ∷ 0 ∷ []) $
         -- [the token; what the log owns; _9; …; _8; …; … _0; …]: local k stands at 2 + 2 (9 - k), and behind a result at one more
@@ -232,8 +230,8 @@ module _ {M : Type 1} (𝓤 : URA M) (H : Heap 𝓤) (A : Atoms 𝓤) (W : Given
         land ! (from ! (stop !)) (init ! 15 refl (read-law .typed t₂ _ is₂ .0)) $
         rewrite ! 15 (λ (w : Val). ‵ (fat fullShare S′.mir l₃ 0 w)) (ap only (EL.tells S.the-type S′.the-laws t₂ (u₂ ∷ []) is₂)) refl $ drop ! $
         use2 W (raw (At 𝓤 H A mem run .pre to-at) ⊛ ‵ (LogOwn κ s)) goes-at $ split ! $
-        calls-at ! fm (At 𝓤 H A mem run) known-at to-at (and-then ! (load ! (from ! (stop !)) (look ! 18 refl)) (and-then ! (load ! (from ! (stop !)) (look ! 16 refl))
-        (no-more !))) (λ u₃.
+        calls-at ! fm (At 𝓤 H A mem run) known-at to-at
+        (and-then ! (load ! (from ! (stop !)) (look ! 18 refl)) (and-then ! (load ! (from ! (stop !)) (look ! 16 refl)) (no-more !))) (λ u₃.
         back tt (λ r. B (κ, tt) .own r (u₃ ∷ [])) _ (Made n) at-said (λ r₃ e₃. peeks ! (B (κ, tt)) (Is (B (κ, tt))) (shows 𝓤 H A (B (κ, tt))) r₃ (u₃ ∷ []) (λ is₃.
         land ! (from ! (stop !)) (init ! 9 refl (held-law .typed r₃ _ is₃ .0)) $ use2 W (raw (Next 𝓤 H A mem run .pre (to-next r₃ u₃))) (goes-next r₃ u₃) $
         calls-at ! fm (Next 𝓤 H A mem run) known-next (to-next r₃ u₃) (and-then ! (load ! (from ! (stop !)) (look ! 8 refl)) (no-more !)) (λ u₄.
@@ -242,8 +240,8 @@ module _ {M : Type 1} (𝓤 : URA M) (H : Heap 𝓤) (A : Atoms 𝓤) (W : Given
         land ! (from ! (stop !)) (init ! 11 refl (read-law .typed t₄ _ is₄ .0)) $
         rewrite ! 11 (λ (w : Val). ‵ (fat fullShare S′.mir l₅ 0 w)) (ap only (EL.tells S.the-type S′.the-laws t₄ (u₄ ∷ []) is₄)) refl $ drop ! $
         use2 W (raw (At 𝓤 H A mem run .pre to-at) ⊛ ‵ (LogOwn κ s)) goes-at $ split ! $
-        calls-at ! fm (At 𝓤 H A mem run) known-at to-at (and-then ! (load ! (from ! (stop !)) (look ! 18 refl)) (and-then ! (load ! (from ! (stop !)) (look ! 16 refl))
-        (no-more !))) (λ u₅.
+        calls-at ! fm (At 𝓤 H A mem run) known-at to-at
+        (and-then ! (load ! (from ! (stop !)) (look ! 18 refl)) (and-then ! (load ! (from ! (stop !)) (look ! 16 refl)) (no-more !))) (λ u₅.
         back tt (λ r. B (κ, tt) .own r (u₅ ∷ [])) _ (Made n) at-said (λ r₅ e₅. peeks ! (B (κ, tt)) (Is (B (κ, tt))) (shows 𝓤 H A (B (κ, tt))) r₅ (u₅ ∷ []) (λ is₅.
         land ! (from ! (stop !)) (init ! 5 refl (held-law .typed r₅ _ is₅ .0)) $ use2 W (raw (Advance 𝓤 H A mem run .pre (to-advance r₅ u₅))) (goes-advance r₅ u₅) $
         calls-at ! fm (Advance 𝓤 H A mem run) known-advance (to-advance r₅ u₅) (and-then ! (load ! (from ! (stop !)) (look ! 4 refl)) (no-more !)) (λ u₆.
@@ -254,8 +252,8 @@ module _ {M : Type 1} (𝓤 : URA M) (H : Heap 𝓤) (A : Atoms 𝓤) (W : Given
         let made : Seen = record { first = t₂; here = t₄; next = r₆ .at } in
         let is : Is R.the-row made (ret made ∷ []) = LL.owes R.the-type R′.the-laws made (tied t₂ u₂ is₂, (tied t₄ u₄ is₄, ((refl, here), tt))) in
         assigns ! (of-opd ! (load ! (from ! (fld ! refl (stop !))) (look-in ! 6 (sub ! 1 refl (whole !))))) (from ! (stop !)) (init ! 2 refl (tt, record { fits = here })) $
-        assigns ! (agg ! (and-then ! (load ! (from ! (stop !)) (look ! 14 refl)) (and-then ! (load ! (from ! (stop !)) (look ! 10 refl)) (and-then ! (load ! (from ! (stop !))
-        (look ! 2 refl)) (no-more !)))))
+        assigns ! (agg ! (and-then ! (load ! (from ! (stop !)) (look ! 14 refl)) (and-then ! (load ! (from ! (stop !)) (look ! 10 refl))
+        (and-then ! (load ! (from ! (stop !)) (look ! 2 refl)) (no-more !)))))
         (from ! (stop !)) (init ! 20 refl (LL.lawful R.the-type R′.the-laws 𝓤 H A W .typed made _ is .0)) $
         returns ! (look ! 20 refl) $ forget ! 2 refl $ forget ! 4 refl $ forget ! 6 refl $ forget ! 8 refl $ forget ! 10 refl $ forget ! 12 refl $ forget ! 14 refl $
         forget ! 16 refl $ forget ! 18 refl $ forget ! 20 refl $

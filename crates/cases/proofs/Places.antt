@@ -21,7 +21,8 @@ unfolding placesAt
 places-length zero figures at = refl
 places-length (suc count) figures at = ap suc (places-length count figures (at + 9))
 
-pub all-places : (figures : List ℕ) (places : List Vehicle) → length places ≡ 24 → ((k : ℕ) → k < 24 → vehicleAt figures (k * 9) ≡ getD places k unused) → places ≡ placesAt 24 figures 0
+pub all-places : (figures : List ℕ) (places : List Vehicle) → length places ≡ 24 → ((k : ℕ) → k < 24 → vehicleAt figures (k * 9) ≡ getD places k unused)
+    → places ≡ placesAt 24 figures 0
 all-places figures places long each =
     ext-getD unused places (placesAt 24 figures 0) (long ∙ sym (places-length 24 figures 0))
     (λ k h. sym (each k (omega arith)) ∙ sym (place-at 24 k figures 0 (omega arith) ∙ ap (vehicleAt figures) (omega arith)))

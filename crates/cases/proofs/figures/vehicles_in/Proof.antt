@@ -20,8 +20,11 @@ abbrev μ-loop : tie.MeasureT-loop
 loop-again : tie.Need-loop-again Inv-loop μ-loop
 loop-again c =
     let turn = c .before .before in
-    let l = turn .loop in
-    (omega arith, simp length-set (l .inv .1), place-more (turn .before .before .args .figures .now) (l .places) (l .i) (c .vehicle-in .result) (omega arith) (l .inv .2) (sym (c .vehicle-in .ensures)))
+    let l = turn .loop in (
+      omega arith,
+      simp length-set (l .inv .1),
+      place-more (turn .before .before .args .figures .now) (l .places) (l .i) (c .vehicle-in .result) (omega arith) (l .inv .2) (sym (c .vehicle-in .ensures)),
+    )
 
 pub vehicles-in-spec : {M : Type 1} → statement M
 vehicles-in-spec =

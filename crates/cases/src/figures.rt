@@ -99,11 +99,12 @@ fn clears_in(figures: &[u8], at: usize) -> Clears
     }
 }
 
-// The thirteen bytes of a desk.
+// The thirteen bytes of a desk; a figure that they do not give is as fresh.
 fn desk_in(figures: &[u8], at: usize) -> Desk
     requires { ⌜ at + 13 ≤ length (now figures) ⌝ }
     ensures { λ r. ⌜ r ≡ deskAt (now (figures .entry)) at ⌝ }
 {
+    let fresh = Desk::fresh();
     Desk {
         clock: number_at(figures, at),
         last: number_at(figures, at + 2),
@@ -112,6 +113,7 @@ fn desk_in(figures: &[u8], at: usize) -> Desk
         out: figures[at + 8] == 1,
         guest: figures[at + 9],
         clears: clears_in(figures, at + 10),
+        ..fresh
     }
 }
 

@@ -68,8 +68,9 @@ pub const LONGEST_LINE: usize = 172;
 /// How many figures the last line of a listing has.
 pub const FIGURES: usize = 8;
 
-/// How many numbers say where a listing in blocks stands.
-const STATE_WORDS: usize = 91;
+/// Room for the numbers that say where a listing in blocks stands: more than
+/// `LUPIN_STATE_WORDS` of host/lupinshift.h, which a landing may raise.
+const STATE_ROOM: usize = 128;
 
 /// The block in which this wrapper takes a listing, in bytes.
 const BLOCK: usize = 16 * 1024;
@@ -102,18 +103,19 @@ pub fn list_into(log: &[u8], out: &mut [u8]) -> Option<usize> {
 #[derive(Clone, Debug)]
 pub struct Listing<'a> {
     log: &'a [u8],
-    state: [u64; STATE_WORDS],
+    state: [u64; STATE_ROOM],
 }
 
 impl<'a> Listing<'a> {
     /// The start of the log's listing.
     #[must_use]
     pub fn new(log: &'a [u8]) -> Self {
-        let mut state = [0; STATE_WORDS];
+        let mut state = [0; STATE_ROOM];
         // SAFETY: both are whole slices, and a `&mut` slice overlaps no other.
-        unsafe {
-            exported::lupin_begin(log.as_ptr(), log.len(), state.as_mut_ptr(), state.len());
-        }
+        let begun = unsafe {
+            exported::lupin_begin(log.as_ptr(), log.len(), state.as_mut_ptr(), state.len())
+        };
+        assert!(begun > 0, "more numbers than {STATE_ROOM}");
         Self { log, state }
     }
 

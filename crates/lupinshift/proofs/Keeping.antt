@@ -39,7 +39,7 @@ paste-on head words run n m size e =
     rw (take-at head (drop n words) n size, behind) (sym (append-assoc head run (drop m words)))
 
 pub stored : (words section : List ℕ) (at left entries accepted ended : ℕ) → length section ≡ wordCount → stateWords ≤ length words
-    → set (set (set (set (set (pasted words 0 (take wordCount (drop 0 section))) 86 at) 87 left) 88 entries) 89 accepted) 90 ended
+    → set (set (set (set (set (pasted words 0 (take wordCount (drop 0 section))) wordCount at) (wordCount + 1) left) (wordCount + 2) entries) (wordCount + 3) accepted) (wordCount + 4) ended
     ≡ (section ++ (at ∷ left ∷ entries ∷ accepted ∷ ended ∷ [])) ++ drop stateWords words
 stored words section at left entries accepted ended size room =
     let numbers : List ℕ = at ∷ left ∷ entries ∷ accepted ∷ ended ∷ [] in

@@ -3,13 +3,13 @@ use Prim.Native.Nat.{_+_, _<_, ℕ}
 use Rattle.section.specs.declared.made.Survey.{Survey}
 use Rattle.section.specs.declared.made.Tally.{Tally}
 use Rattle.working.specs.Entries.{every}
-use Rattle.working.specs.WellMade.{all, countFrom, isBlank, isFrom, movementTests, notLater, numbered, oneIf, ordered, same, shaped}
+use Rattle.working.specs.WellMade.{all, countFrom, deskFigures, isBlank, isFrom, movementTests, notLater, numbered, oneIf, ordered, rangeTests, same, shaped, zeroTests}
 use Rattle.working.specs.declared.Desk.{Desk}
 use Rattle.working.specs.declared.Movement.{Movement}
 use Rattle.working.specs.declared.Vehicle.{Vehicle}
 use lib.Dec.{leb}
 use mathlib.Core.Bool.{Bool, _&&_, cond, not}
-use mathlib.Core.List.{List, [], _∷_}
+use mathlib.Core.List.{List, [], _++_, _∷_}
 
 -- class, asked and granted are in the ranges of what the vehicle left on
 abbrev pub movementMade : Movement → ℕ → Bool
@@ -59,15 +59,8 @@ pub record Room (s : Survey) : Type 0 where
 -- ---- a desk beside its tally
 
 abbrev pub deskMadeWith : Desk → Tally → Bool
-deskMadeWith d t =
-    every
-    (leb (d .last) 9999
-    ∷ leb (d .sent) 12
-    ∷ leb (t .count) (d .sent)
-    ∷ leb (d .guest) 5
-    ∷ leb (d .clears .asked) 8
-    ∷ leb (d .clears .holds) 8
-    ∷ leb (d .clears .owes) 8
-    ∷ notLater (d .interval) (d .clock)
-    ∷ t .numbered
-    ∷ [])
+deskMadeWith d t = every (rangeTests (deskFigures d) ++ leb (t .count) (d .sent) ∷ notLater (d .interval) (d .clock) ∷ t .numbered ∷ [])
+
+-- "all else is zero or none"
+abbrev pub allZero : List ℕ → Bool
+allZero l = every (zeroTests l)

@@ -1,8 +1,8 @@
 // The test that a section is well made: one pass over the vehicles present, one over the unused places, the form numbers, then the desks.
 // The passes go from B's end to A's, as the definitions do, and pass no place by: a section is nearly always well made.
 ghost use Prim.Native.Nat.{_<_, _≤_};
-ghost use Rattle.section.specs.Made.{Room, allBlank, counted, deskMadeWith, differsFrom, seen, surveyOf};
-ghost use Rattle.working.specs.WellMade.{differ, isFreshDesk, isStopped, notLater, oneIf, wellMade};
+ghost use Rattle.section.specs.Made.{Room, allBlank, allZero, counted, deskMadeWith, differsFrom, seen, surveyOf};
+ghost use Rattle.working.specs.WellMade.{differ, isFreshDesk, notLater, oneIf, wellMade};
 ghost use lib.ListN.{drop, take};
 ghost use mathlib.Core.Path.{_≡_};
 use crate::vehicles::is_blank;
@@ -146,32 +146,30 @@ fn desk_made(d: Desk, t: Tally) -> bool
 {
     let interval = d.interval;
     let held = d.clears;
-    let sent = (d.last <= Desk::LAST_FORM) & (d.sent <= Desk::MOST_SENT) & (t.count <= d.sent);
     let most = Desk::MOST_TRAINS;
-    let clears = (d.guest <= Vehicle::LAST_CLASS)
-        & (held.asked <= most)
-        & (held.holds <= most)
-        & (held.owes <= most);
-    sent & clears & is_not_later(interval, d.clock) & t.numbered
+    let counted = (d.last <= Desk::LAST_FORM) & (d.sent <= Desk::MOST_SENT);
+    let clears = (held.asked <= most) & (held.holds <= most) & (held.owes <= most);
+    let ranges = counted & (d.guest <= Vehicle::LAST_CLASS) & clears;
+    ranges & (t.count <= d.sent) & is_not_later(interval, d.clock) & t.numbered
 }
 
-fn is_stopped(interval: Interval) -> bool
-    ensures { λ r. ⌜ r ≡ isStopped interval ⌝ }
+// Whether all numbers are 0.
+fn all_zero(numbers: [u64; Desk::FIGURES]) -> bool
+    ensures { λ r. ⌜ r ≡ allZero numbers ⌝ }
 {
-    match interval {
-        Interval::Stopped => true,
-        Interval::Since(_) => false,
+    let mut zero = true;
+    let mut i = Desk::FIGURES;
+    while 0 < i {
+        i -= 1;
+        zero = (numbers[i] == 0) & zero;
     }
+    zero
 }
 
 fn is_fresh(d: Desk) -> bool
     ensures { λ r. ⌜ r ≡ isFreshDesk d ⌝ }
 {
-    let interval = d.interval;
-    let held = d.clears;
-    let unused = (d.clock == 0) & (d.last == 0) & (d.sent == 0) & is_stopped(interval);
-    let clears = (d.guest == 0) & (held.asked == 0) & (held.holds == 0) & (held.owes == 0);
-    unused & !d.out & clears
+    all_zero(d.figures())
 }
 
 // Whether a section is well made: clause by clause, in document 01's order, of any value.

@@ -2,20 +2,25 @@
 -- the section with it.
 -- Assumes nothing.
 use Prim.Native.Nat.{_%_, _+_, _-_, _<_, _≤_, suc, zero, ℕ}
-use Rattle.words.proofs.Written.{as-written, first-words, written}
+use Rattle.words.proofs.Packing.{one-back}
+use Rattle.words.proofs.Written.{as-written, first-words, set-past, written}
 use Rattle.words.specs.Stores.{DeskPut}
 use Rattle.words.specs.Words.{Becomes, DeskBecomes, sectionIn, startIn, wordCount, wordsFrom, wordsOf}
-use Rattle.words.specs.Words.{deskFrom, deskIn, deskLength, deskRead, deskWords, deskWordsIn, intervalIn}
-use Rattle.working.specs.Sections.{countRefusal, deskOf, withDesk}
+use Rattle.words.specs.Words.{deskFrom, deskIn, deskRead, deskWords, deskWordsIn, intervalIn}
+use Rattle.working.specs.Sections.{countRefusal, deskOf, withDesk, withFigures}
+use Rattle.working.specs.WellMade.{deskLength, intervalNumber}
+use Rattle.working.specs.declared.Clears.{Clears}
 use Rattle.working.specs.declared.Desk.{Desk}
-use Rattle.working.specs.declared.Interval.the-variants.{Since}
+use Rattle.working.specs.declared.Interval.the-variants.{Since, Stopped}
+use Rattle.working.specs.declared.Interval.{Interval}
 use Rattle.working.specs.declared.Section.{Section}
 use Rattle.working.specs.declared.Station.the-variants.{A, B}
 use Rattle.working.specs.declared.Station.{Station}
 use lib.Dec.{ltb}
-use lib.ListN.{drop, length, set, take, take-append-drop}
+use lib.ListN.{drop, drop-of-length-le, getD, length, length-drop, set, take, take-append-drop}
+use lib.Seq.{drop-cons, length-take-le, take-all, take-suc}
 use mathlib.Core.Bool.{cond}
-use mathlib.Core.List.{List, _++_}
+use mathlib.Core.List.{List, [], _++_, _∷_, append-assoc, append-nil}
 use mathlib.Core.Path.{_∙_, _≡_, ap, ap₂, refl, sym}
 use native.Mathlib.Nat.{mod-eq-of-lt}
 use native.Mathlib.Numerals.{add-one}
@@ -29,8 +34,34 @@ interval-since (suc minute) some =
     let same : suc minute - 1 ≡ minute = omega arith in
     rw same
 
-pub interval-back : (minute : ℕ) → minute < 65536 → intervalIn (minute + 1) ≡ Since minute
-interval-back minute less = rw (add-one minute, mod-eq-of-lt less)
+pub interval-back : (i : Interval) → intervalNumber i ≤ 65536 → intervalIn (intervalNumber i) ≡ i
+interval-back Stopped less = refl
+interval-back (Since minute) less =
+    let small : minute < 65536 = omega arith in
+    rw (add-one minute, mod-eq-of-lt small)
+
+-- ---- a desk from its own words
+
+-- the same numbers, one by one
+abbrev pub Same : List ℕ → List ℕ → Type 0
+Same [] [] = Unit {0}
+Same [] (b ∷ l) = ⊥
+Same (a ∷ k) [] = ⊥
+Same (a ∷ k) (b ∷ l) = (a ≡ b) × Same k l
+
+pub desk-back : (d : Desk) → intervalNumber (d .interval) ≤ 65536 → Same (deskWords (deskRead (deskWords d))) (deskWords d) → deskRead (deskWords d) ≡ d
+desk-back d less same =
+    let since = interval-back (d .interval) less in
+    let out = one-back (d .out) in
+    let clears : Clears = record { asked = d .clears .asked; holds = d .clears .holds; owes = d .clears .owes } in
+    let e : deskRead (deskWords d) ≡ withFigures (d .clock) (d .last) (d .sent) (d .interval) (d .out) (d .guest) clears d = cc in
+    e
+
+-- it is read off the first of any words
+pub desk-first : (w : List ℕ) (i : ℕ) → i + deskLength ≤ length w → deskRead (take (length w - i) (drop i w)) ≡ deskRead (wordsFrom i deskLength w)
+desk-first w i fits =
+    let few : length (drop i w) ≤ length w - i = simp length-drop (omega arith) in
+    ap deskRead (take-all (length w - i) (drop i w) few ∙ first-words i deskLength w fits)
 
 -- ---- with other words at a station
 
@@ -76,6 +107,22 @@ put-next {w} {u} {after} {x} {p} {q} one two = record {
   behind = two .behind ∙ one .behind;
 }
 
+pub put-as : {w after : List ℕ} {x : Station} {p : List ℕ → List ℕ} (q : List ℕ → List ℕ) → DeskPut w after x p
+    → p (deskWordsIn w x) ≡ q (deskWordsIn w x) → DeskPut w after x q
+put-as q one e = record { long = one .long; same = one .same; desk = one .desk ∙ e; ahead = one .ahead; behind = one .behind }
+
+-- one more of the numbers f is put in its place
+pub figure-next : (f t : List ℕ) (i : ℕ) → i < length f → i < length t → set (take i f ++ drop i t) i (getD f i 0) ≡ take (i + 1) f ++ drop (i + 1) t
+figure-next f t i less fits =
+    let v = getD f i 0 in
+    let size : length (take i f) + 0 ≡ i = omega (arith, length-take-le i f (omega arith)) in
+    let past = ap (λ k. set (take i f ++ (getD t i 0 ∷ drop (suc i) t)) k v) (sym size) ∙ set-past (take i f) (getD t i 0 ∷ drop (suc i) t) 0 v in
+    rw (drop-cons t i 0 fits, add-one i, take-suc f i 0 less) (past ∙ sym (append-assoc (take i f) (v ∷ []) (drop (suc i) t)))
+
+-- all of them
+pub figures-all : (f t : List ℕ) (i : ℕ) → length f ≤ i → length t ≤ i → take i f ++ drop i t ≡ f
+figures-all f t i few fits = rw (take-all i f few, drop-of-length-le t fits) (append-nil f)
+
 pub desk-becomes : {x : Station} {w after : List ℕ} {put : List ℕ → List ℕ} (f : Desk → Desk) → DeskPut w after x put
     → deskRead (put (deskWordsIn w x)) ≡ f (deskIn w x) → ((d : Desk) → put (deskWords d) ≡ deskWords (f d)) → DeskBecomes w after x f
 desk-becomes {x} {w} {after} {put} f p read words =
@@ -88,9 +135,9 @@ desk-becomes {x} {w} {after} {put} f p read words =
       section = ap sectionIn shown ∙ section-with w (deskWordsIn after x) x ∙ ap (withDesk s x) (ap deskRead (p .desk) ∙ read ∙ ap f (sym (desk-at w x)));
       start = ap startIn shown ∙ start-with w (deskWordsIn after x) x;
       own = λ few e.
-          let nine : deskWordsIn after x ≡ deskWords (f (deskOf s x)) =
+          let put-own : deskWordsIn after x ≡ deskWords (f (deskOf s x)) =
           p .desk ∙ ap put (ap (λ u. deskWordsIn u x) e ∙ own-desk s (startIn w) x) ∙ words (deskOf s x) in
-          parts ∙ ap₂ (λ u t. withWords u x t) e nine ∙ own-with s (startIn w) (f (deskOf s x)) x;
+          parts ∙ ap₂ (λ u t. withWords u x t) e put-own ∙ own-with s (startIn w) (f (deskOf s x)) x;
     }
 
 -- ---- the count of refusals

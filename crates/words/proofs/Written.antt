@@ -16,7 +16,7 @@ first-words i (suc n) w long =
     let same : i + 1 + n ≡ i + suc n = omega arith in
     drop-cons w i 0 (omega arith) ∙ ap (getD w i 0 ∷_) (rw (next, ← same) (first-words (i + 1) n w (omega arith)))
 
-words-count : (i n : ℕ) (w : List ℕ) → length (wordsFrom i n w) ≡ n
+pub words-count : (i n : ℕ) (w : List ℕ) → length (wordsFrom i n w) ≡ n
 words-count i zero w = refl
 words-count i (suc n) w = ap suc (words-count (i + 1) n w)
 

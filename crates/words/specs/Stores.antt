@@ -1,6 +1,7 @@
 -- What a store within this crate alters, as its functions tell one another.
 use Prim.Native.Nat.{_%_, _*_, _+_, _<_, ℕ}
-use Rattle.words.specs.Words.{deskFrom, deskLength, deskWordsIn, firstWord, ringFrom, secondWord, slots, startIn, vehicleIn, wordCount}
+use Rattle.words.specs.Words.{deskFrom, deskWordsIn, firstWord, ringFrom, secondWord, slots, startIn, vehicleIn, wordCount}
+use Rattle.working.specs.WellMade.{deskLength}
 use Rattle.working.specs.declared.Station.the-variants.{A, B}
 use Rattle.working.specs.declared.Station.{Station}
 use Rattle.working.specs.declared.Vehicle.{Vehicle}

@@ -1,22 +1,22 @@
 -- A section in words, as a run keeps it in lent memory:
 --
---   word       | holds
---   0          | how many vehicles are present
---   1          | 1 in force, else 0
---   2          | entries refused
---   3          | the ring's start: the slot of the vehicle nearest A
---   4 to 12    | A's desk: clock, last, sent, interval (0 is none, else one more than the minute), out (1 or 0), guest, asked, holds, owes
---   13 to 21   | B's desk, in the same order
---   22 to 85   | the ring: 32 slots of two words; place i is slot (start + i) % 32
+--   word        | holds
+--   0           | how many vehicles are present
+--   1           | 1 in force, else 0
+--   2           | entries refused
+--   3           | the ring's start: the slot of the vehicle nearest A
+--   from 4 on   | A's desk, a word for each of its figures (`deskFigures`), then B's
+--   the last 64 | the ring: 32 slots of two words; place i is slot (start + i) % 32
 --
 -- A slot's first word, from its low end: form number (two bytes), sender, heading, met (1 or 0), class (a byte each).
 -- Its second word: what the vehicle left on (0 OPEN, 1 THROUGH, 2 RETURN, 3 TRAIN), granted, asked (a byte each). Two zeros are an unused place.
 use Prim.Native.Nat.{_%_, _*_, _+_, _-_, _/_, _^_, _≤_, min, suc, zero, ℕ}
 use Rattle.working.specs.Reasons.{findOf, mayMeet}
-use Rattle.working.specs.Sections.{deskOf, vehiclesOf, padTo, unused, withDesk, withVehicles}
+pub use Rattle.working.specs.Sections.{withClears, withGuest, withOut}
+use Rattle.working.specs.Effects.{received}
+use Rattle.working.specs.Sections.{deskOf, padTo, unused, vehiclesOf, withDesk, withEntered, withVehicles}
 use Rattle.working.specs.Steps.{metAt}
-use Rattle.working.specs.WellMade.{oneIf}
-use Rattle.working.specs.declared.Clears.{Clears}
+use Rattle.working.specs.WellMade.{deskFigures, deskLength, numbersOf, oneIf}
 use Rattle.working.specs.declared.Desk.{Desk}
 use Rattle.working.specs.declared.Interval.the-variants.{Since, Stopped}
 use Rattle.working.specs.declared.Interval.{Interval}
@@ -33,9 +33,6 @@ use mathlib.Core.List.{List, [], _++_, _∷_}
 use mathlib.Core.Path.{_≡_}
 
 -- ---- how many words
-
-abbrev pub deskLength : ℕ
-deskLength = 9
 
 -- where a station's words begin
 abbrev pub deskFrom : Station → ℕ
@@ -144,10 +141,6 @@ abbrev pub intervalIn : ℕ → Interval
 intervalIn zero = Stopped
 intervalIn (suc minute) = Since (minute % 65536)
 
-abbrev pub intervalWord : Interval → ℕ
-intervalWord Stopped = 0
-intervalWord (Since minute) = minute + 1
-
 abbrev pub deskRead : List ℕ → Desk
 deskRead t = record {
   clock = getD t 0 0 % 65536;
@@ -160,17 +153,7 @@ deskRead t = record {
 }
 
 abbrev pub deskWords : Desk → List ℕ
-deskWords d =
-    d .clock
-    ∷ d .last
-    ∷ d .sent
-    ∷ intervalWord (d .interval)
-    ∷ oneIf (d .out)
-    ∷ d .guest
-    ∷ d .clears .asked
-    ∷ d .clears .holds
-    ∷ d .clears .owes
-    ∷ []
+deskWords d = numbersOf (deskFigures d)
 
 -- the words of a station's desk, and the desk that they stand for
 abbrev pub deskWordsIn : List ℕ → Station → List ℕ
@@ -230,27 +213,9 @@ pub record Met (before after : List ℕ) (x sender : Station) (form : ℕ) (r : 
 abbrev pub DeskBecomes : List ℕ → List ℕ → Station → (Desk → Desk) → Type 0
 DeskBecomes before after x f = Becomes before after (withDesk (sectionIn before) x (f (deskOf (sectionIn before) x))) (startIn before)
 
--- a desk with the figures that an entry of its station alters, and with its others
-abbrev pub withEntered : ℕ → ℕ → ℕ → Interval → Desk → Desk
-withEntered clock last sent interval d =
-    record { clock = clock; last = last; sent = sent; interval = interval; out = d .out; guest = d .guest; clears = d .clears }
-
-abbrev pub withOthers : Bool → ℕ → Clears → Desk → Desk
-withOthers out guest clears d =
-    record { clock = d .clock; last = d .last; sent = d .sent; interval = d .interval; out = out; guest = guest; clears = clears }
-
 -- a departure takes a form number and starts the interval; a receipt stops it
 abbrev pub withDeparture : ℕ → ℕ → ℕ → Desk → Desk
 withDeparture time form sent = withEntered time form sent (Since time)
 
 abbrev pub withReceipt : ℕ → ℕ → Desk → Desk
-withReceipt time sent d = withEntered time (d .last) sent Stopped d
-
-abbrev pub withOut : Bool → Desk → Desk
-withOut out d = withOthers out (d .guest) (d .clears) d
-
-abbrev pub withGuest : ℕ → Desk → Desk
-withGuest guest d = withOthers (d .out) guest (d .clears) d
-
-abbrev pub withClears : Clears → Desk → Desk
-withClears clears d = withOthers (d .out) (d .guest) clears d
+withReceipt time sent d = received d time sent

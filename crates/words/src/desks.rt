@@ -1,11 +1,13 @@
-// What a section holds but for its vehicles, in lent words: how many they are, in force, refused, the ring's start, and nine words for each desk.
-ghost use Prim.Native.Nat.{_%_, _+_, _<_, _≤_};
+// What a section holds but for its vehicles, in lent words: how many they are, in force, refused, the ring's start, and a word for each figure of the two desks.
+ghost use Prim.Native.Nat.{_+_, _<_, _≤_};
 ghost use Rattle.words.specs.Stores.{DeskPut};
-ghost use Rattle.words.specs.Words.{Becomes, DeskBecomes, deskFrom, deskLength, deskWordsIn, intervalIn, intervalWord, sectionIn, startIn, withClears, withDeparture, withEntered, withGuest, withOut, withReceipt};
-ghost use Rattle.working.specs.Sections.{countRefusal, deskOf};
+ghost use Rattle.words.specs.Words.{Becomes, DeskBecomes, deskFrom, deskRead, deskWordsIn, intervalIn, sectionIn, startIn, withDeparture, withReceipt};
+ghost use Rattle.working.specs.Sections.{countRefusal, deskOf, withClears, withEntered, withGuest, withInterval, withOut};
+ghost use Rattle.working.specs.WellMade.{deskLength};
+ghost use Rattle.working.specs.declared.Interval.the-variants.{Stopped};
 ghost use Rattle.working.specs.declared.Station.the-variants.{B};
 ghost use lib.Dec.{ltb};
-ghost use lib.ListN.{getD, set};
+ghost use lib.ListN.{length, set};
 ghost use mathlib.Core.Bool.{cond};
 ghost use mathlib.Core.Path.{_≡_};
 use crate::vehicles::BYTE;
@@ -27,7 +29,7 @@ pub(crate) const START: usize = 3;
 
 const FIRST_DESK: usize = 4;
 
-// The words of a desk, in their order.
+// The figures of a desk, each at its place.
 const CLOCK: usize = 0;
 
 const LAST: usize = 1;
@@ -46,10 +48,8 @@ const HOLDS: usize = 7;
 
 const OWES: usize = 8;
 
-const DESK_LENGTH: usize = OWES + 1;
-
 // The ring of vehicles lies behind the two desks.
-pub(crate) const RING: usize = FIRST_DESK + 2 * DESK_LENGTH;
+pub(crate) const RING: usize = FIRST_DESK + 2 * Desk::FIGURES;
 
 pub(crate) const SLOTS: usize = 32;
 
@@ -68,44 +68,11 @@ fn desk_from(at: Station) -> usize
 {
     match at {
         Station::A => FIRST_DESK,
-        Station::B => FIRST_DESK + DESK_LENGTH,
+        Station::B => FIRST_DESK + Desk::FIGURES,
     }
-}
-
-// A word of a desk.
-fn word_at(words: &Words, at: Station, figure: usize) -> u64
-    requires { ⌜ figure < deskLength ⌝ }
-    ensures { λ r. ⌜ r ≡ getD (deskWordsIn (now (words .entry)) at) figure 0 ⌝ }
-{
-    words[desk_from(at) + figure]
-}
-
-// A figure of one byte.
-fn byte_at(words: &Words, at: Station, figure: usize) -> u8
-    requires { ⌜ figure < deskLength ⌝ }
-    ensures { λ r. ⌜ r ≡ getD (deskWordsIn (now (words .entry)) at) figure 0 % 256 ⌝ }
-{
-    (word_at(words, at, figure) % BYTE) as u8
-}
-
-// A figure of two bytes.
-fn short_at(words: &Words, at: Station, figure: usize) -> u16
-    requires { ⌜ figure < deskLength ⌝ }
-    ensures { λ r. ⌜ r ≡ getD (deskWordsIn (now (words .entry)) at) figure 0 % 65536 ⌝ }
-{
-    (word_at(words, at, figure) % TWO_BYTES) as u16
 }
 
 // 0 where no interval is running, else one more than the minute of the last departure.
-fn interval_word(interval: Interval) -> u64
-    ensures { λ r. ⌜ (r ≡ intervalWord interval) × (intervalIn r ≡ interval) ⌝ }
-{
-    match interval {
-        Interval::Stopped => 0,
-        Interval::Since(minute) => minute as u64 + 1,
-    }
-}
-
 fn interval_in(word: u64) -> Interval
     ensures { λ r. ⌜ r ≡ intervalIn word ⌝ }
 {
@@ -115,23 +82,45 @@ fn interval_in(word: u64) -> Interval
     Interval::Since(((word - 1) % TWO_BYTES) as u16)
 }
 
+// The figures of a desk in words, the first of them, but for the interval.
+fn stopped_in(words: &[u64]) -> Desk
+    requires { ⌜ deskLength ≤ length (now words) ⌝ }
+    ensures { λ r. ⌜ r ≡ withInterval Stopped (deskRead (now (words .entry))) ⌝ }
+{
+    Desk {
+        clock: (words[CLOCK] % TWO_BYTES) as u16,
+        last: (words[LAST] % TWO_BYTES) as u16,
+        sent: (words[SENT] % BYTE) as u8,
+        interval: Interval::Stopped,
+        out: words[OUT] == 1,
+        guest: (words[GUEST] % BYTE) as u8,
+        clears: Clears {
+            asked: (words[ASKED] % BYTE) as u8,
+            holds: (words[HOLDS] % BYTE) as u8,
+            owes: (words[OWES] % BYTE) as u8,
+        },
+    }
+}
+
+fn desk_in(words: &[u64]) -> Desk
+    requires { ⌜ deskLength ≤ length (now words) ⌝ }
+    ensures { λ r. ⌜ r ≡ deskRead (now (words .entry)) ⌝ }
+{
+    let stopped = stopped_in(words);
+    let interval = interval_in(words[INTERVAL]);
+    Desk {
+        interval,
+        ..stopped
+    }
+}
+
 // The desk of a station.
 pub fn desk(words: &Words, at: Station) -> Desk
     ensures { λ r. ⌜ r ≡ deskOf (sectionIn (now (words .entry))) at ⌝ }
 {
-    Desk {
-        clock: short_at(words, at, CLOCK),
-        last: short_at(words, at, LAST),
-        sent: byte_at(words, at, SENT),
-        interval: interval_in(word_at(words, at, INTERVAL)),
-        out: word_at(words, at, OUT) == 1,
-        guest: byte_at(words, at, GUEST),
-        clears: Clears {
-            asked: byte_at(words, at, ASKED),
-            holds: byte_at(words, at, HOLDS),
-            owes: byte_at(words, at, OWES),
-        },
-    }
+    let all = &words[..];
+    let from = desk_from(at);
+    desk_in(&all[from..])
 }
 
 // A word of a desk is replaced. Seen as a slice, the array shows the proof how many its words are.
@@ -150,7 +139,7 @@ fn put_entered(words: &mut Words, at: Station, clock: u16, last: u16, sent: u8, 
     put(words, at, CLOCK, clock as u64);
     put(words, at, LAST, last as u64);
     put(words, at, SENT, sent as u64);
-    put(words, at, INTERVAL, interval_word(interval));
+    put(words, at, INTERVAL, interval.number());
 }
 
 // What every departure alters: the minute, the form number, the departures counted; and the interval runs from that minute.
@@ -166,7 +155,7 @@ pub fn put_receipt(words: &mut Words, at: Station, time: u16, sent: u8)
 {
     put(words, at, CLOCK, time as u64);
     put(words, at, SENT, sent as u64);
-    put(words, at, INTERVAL, interval_word(Interval::Stopped));
+    put(words, at, INTERVAL, 0);
 }
 
 // Whether the station's own opener is away.
@@ -196,12 +185,13 @@ pub fn put_clears(words: &mut Words, at: Station, c: Clears)
 pub(crate) fn put_desk(words: &mut Words, at: Station, d: Desk)
     ensures { λ _. ⌜ DeskBecomes (now (words .entry)) (now (words .exit)) at (λ _. d) ⌝ }
 {
-    let interval = d.interval;
-    let clears = d.clears;
-    put_entered(words, at, d.clock, d.last, d.sent, interval);
-    put_out(words, at, d.out);
-    put_guest(words, at, d.guest);
-    put_clears(words, at, clears);
+    let _ = &words[..];
+    let figures = d.figures();
+    let mut i = 0;
+    while i < Desk::FIGURES {
+        put(words, at, i, figures[i]);
+        i += 1;
+    }
 }
 
 // The count with one more, up to its largest value.

@@ -5,7 +5,7 @@ use Rattle.working.proofs.Every.{Every, all-every, every-all}
 use Rattle.working.proofs.Tests.{Each, and, both, each-holds, every-holds}
 use Rattle.working.specs.Entries.{every}
 use Rattle.working.specs.Sections.{deskOf, vehiclesOf, numberAt}
-use Rattle.working.specs.WellMade.{all, countFrom, deskTests, differ, isBlank, isFrom, isIdle, isOpener, madeTests, movementTests, notLater, numbered, ordered, shaped, vehicleTests, wellMade}
+use Rattle.working.specs.WellMade.{Figure, Range, all, any, countFrom, deskFigures, deskTests, differ, isBlank, isFrom, isIdle, isOpener, madeTests, movementTests, notLater, numbered, ordered, shaped, upTo, vehicleTests, wellMade}
 use Rattle.working.specs.declared.Desk.{Desk}
 use Rattle.working.specs.declared.Movement.the-variants.{Open, Return, Through, Train}
 use Rattle.working.specs.declared.Movement.{Movement}
@@ -17,7 +17,7 @@ use borrow.Author.Tests.{eq-eqb, eqb-true, le-leb, leb-true}
 use lib.Dec.{eqb, leb}
 use lib.ListN.{drop}
 use mathlib.Core.Bool.{Bool, _&&_, _||_, false, not, true}
-use mathlib.Core.List.{List}
+use mathlib.Core.List.{List, [], _∷_}
 use mathlib.Core.Path.{_≡_, refl}
 use native.Mathlib.Omega.{arith}
 
@@ -91,12 +91,17 @@ numbered-tests n last v f = by (isFrom n v) refl
 
 -- ---- a desk
 
--- its figures in range
-pub record Bounds (d : Desk) : Type 0 where
-  pub guest : d .guest ≤ 5
-  pub asked : d .clears .asked ≤ 8
-  pub holds : d .clears .holds ≤ 8
-  pub owes : d .clears .owes ≤ 8
+abbrev In : ℕ → Range → Type 0
+In n any = Unit {0}
+In n (upTo most) = n ≤ most
+
+abbrev Within : List Figure → Type 0
+Within [] = Unit {0}
+Within (f ∷ fs) = In (f .0) (f .1) × Within fs
+
+-- its figures in range, but for those that a departure counts: form number and sent
+abbrev pub Bounds : Desk → Type 0
+Bounds d = Within (drop 3 (deskFigures d))
 
 -- the desk of station number n beside the line l
 pub record DeskMade (n : ℕ) (d : Desk) (l : List Vehicle) : Type 0 where
@@ -108,10 +113,10 @@ pub record DeskMade (n : ℕ) (d : Desk) (l : List Vehicle) : Type 0 where
   pub number : Every (Numbered n (d .last)) l
 
 pub desk-made : (n : ℕ) (d : Desk) (l : List Vehicle) → every (deskTests n d l) ≡ true → DeskMade n d l
-desk-made n d l h = let e = each-holds (deskTests n d l) h in search (leb-true, all-every, numbered-made, arith) depth 12
+desk-made n d l h = let e = each-holds (deskTests n d l) h in search (leb-true, all-every, numbered-made, arith) depth 24
 
 pub desk-tests : (n : ℕ) (d : Desk) (l : List Vehicle) → DeskMade n d l → every (deskTests n d l) ≡ true
-desk-tests n d l m = every-holds (deskTests n d l) (search (le-leb, every-all, numbered-tests, arith) depth 12)
+desk-tests n d l m = every-holds (deskTests n d l) (search (le-leb, every-all, numbered-tests, arith) depth 24)
 
 -- ---- the section
 

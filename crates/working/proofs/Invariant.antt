@@ -15,6 +15,7 @@ use Rattle.working.proofs.Tests.{clash, no-test, or-left, or-right, zer
 use Rattle.working.specs.Demand3.{grantedIn}
 use Rattle.working.specs.Departures.{isTrain, kindIn}
 use Rattle.working.specs.Effects.{departed, ifAny, otherDesk, received, returnDesk, trainDesk}
+use Rattle.working.specs.Sections.{withOut}
 use Rattle.working.specs.WellMade.{isOpener, oneIf}
 use Rattle.working.specs.declared.Desk.{Desk}
 use Rattle.working.specs.declared.Movement.the-variants.{Open, Return, Through, Train}
@@ -246,7 +247,7 @@ quiet guest holds sum outs row clear = record {
 -- an OPEN or a THROUGH
 pub kept-opener : (d o : Desk) (t : ℕ) (out : Bool) (m : Movement) (mine theirs : List Movement) → Halves d o mine theirs
     → OpenPasses d → isOpener m ≡ true → out ≡ isOpen m
-    → Halves (departed d t (record { out = out; guest = d .guest; clears = d .clears })) o (m ∷ mine) theirs
+    → Halves (withOut out (departed d t)) o (m ∷ mine) theirs
 kept-opener d o t out m mine theirs h p op is-out =
     let none-out : (ltb 0 (o .guest) || awayAt mine theirs) ≡ false = sym (h .own .outs) ∙ p .out in
     let no-guest = or-left (ltb 0 (o .guest)) (awayAt mine theirs) none-out in
@@ -317,7 +318,7 @@ kept-train d o t a g mine theirs h p =
 -- the station's own OPEN or THROUGH
 pub kept-own : (d o : Desk) (t sent : ℕ) (m : Movement) (mine theirs : List Movement) → Halves d o (m ∷ mine) theirs
     → isOpener m ≡ true
-    → Halves (received d t sent (record { out = cond (isOpen m) false (d .out); guest = d .guest; clears = d .clears })) o mine theirs
+    → Halves (withOut (cond (isOpen m) false (d .out)) (received d t sent)) o mine theirs
 kept-own d o t sent m mine theirs h op =
     let k = opener m op in
     let own-guest : d .guest ≡ 0 = zero-unless (d .guest) (λ some. cons-nil (h .own .guests some .none)) in

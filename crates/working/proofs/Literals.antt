@@ -2,11 +2,11 @@
 -- what a step does.
 -- Assumes nothing.
 use Prim.Native.Nat.{ℕ}
-use Rattle.working.specs.Sections.{padTo}
+use Rattle.working.specs.Sections.{freshDesk, padTo, withClears, withEntered, withFigures}
+use Rattle.working.specs.WellMade.{deskFigures, numbersOf}
 use Rattle.working.specs.declared.Answer.the-variants.{Accepted}
 use Rattle.working.specs.declared.Answer.{Answer}
 use Rattle.working.specs.declared.Desk.{Desk}
-use Rattle.working.specs.declared.Interval.the-variants.{Since, Stopped}
 use Rattle.working.specs.declared.Interval.{Interval}
 use Rattle.working.specs.declared.Movement.the-variants.{Open, Return, Through, Train}
 use Rattle.working.specs.declared.Movement.{Movement}
@@ -68,34 +68,25 @@ vehicle movement sender form heading met class = record { movement = movement; s
 
 abbrev pub figures : ℕ → ℕ → ℕ → Interval → Bool → ℕ → ℕ → ℕ → ℕ → Desk
 figures clock last sent interval out guest asked holds owes =
-    record { clock = clock; last = last; sent = sent; interval = interval; out = out; guest = guest; clears = record { asked = asked; holds = holds; owes = owes } }
+    withFigures clock last sent interval out guest (record { asked = asked; holds = holds; owes = owes }) freshDesk
 
 abbrev pub withClock : ℕ → Desk → Desk
-withClock n d = figures n (d .last) (d .sent) (d .interval) (d .out) (d .guest) (d .clears .asked) (d .clears .holds) (d .clears .owes)
+withClock n d = withEntered n (d .last) (d .sent) (d .interval) d
 
 abbrev pub withLast : ℕ → Desk → Desk
-withLast n d = figures (d .clock) n (d .sent) (d .interval) (d .out) (d .guest) (d .clears .asked) (d .clears .holds) (d .clears .owes)
+withLast n d = withEntered (d .clock) n (d .sent) (d .interval) d
 
 abbrev pub withSent : ℕ → Desk → Desk
-withSent n d = figures (d .clock) (d .last) n (d .interval) (d .out) (d .guest) (d .clears .asked) (d .clears .holds) (d .clears .owes)
-
-abbrev pub withInterval : Interval → Desk → Desk
-withInterval i d = figures (d .clock) (d .last) (d .sent) i (d .out) (d .guest) (d .clears .asked) (d .clears .holds) (d .clears .owes)
-
-abbrev pub withOut : Bool → Desk → Desk
-withOut out d = figures (d .clock) (d .last) (d .sent) (d .interval) out (d .guest) (d .clears .asked) (d .clears .holds) (d .clears .owes)
-
-abbrev pub withGuest : ℕ → Desk → Desk
-withGuest n d = figures (d .clock) (d .last) (d .sent) (d .interval) (d .out) n (d .clears .asked) (d .clears .holds) (d .clears .owes)
+withSent n d = withEntered (d .clock) (d .last) n (d .interval) d
 
 abbrev pub withAsked : ℕ → Desk → Desk
-withAsked n d = figures (d .clock) (d .last) (d .sent) (d .interval) (d .out) (d .guest) n (d .clears .holds) (d .clears .owes)
+withAsked n d = withClears (record { asked = n; holds = d .clears .holds; owes = d .clears .owes }) d
 
 abbrev pub withHolds : ℕ → Desk → Desk
-withHolds n d = figures (d .clock) (d .last) (d .sent) (d .interval) (d .out) (d .guest) (d .clears .asked) n (d .clears .owes)
+withHolds n d = withClears (record { asked = d .clears .asked; holds = n; owes = d .clears .owes }) d
 
 abbrev pub withOwes : ℕ → Desk → Desk
-withOwes n d = figures (d .clock) (d .last) (d .sent) (d .interval) (d .out) (d .guest) (d .clears .asked) (d .clears .holds) n
+withOwes n d = withClears (record { asked = d .clears .asked; holds = d .clears .holds; owes = n }) d
 
 -- ---- a section in force: so many refused, these vehicles from A to B, these desks
 
@@ -119,15 +110,8 @@ abbrev vehicleFigures : List Vehicle → List ℕ
 vehicleFigures [] = []
 vehicleFigures (v ∷ l) = movementFigures (v .movement) ++ v .sender ∷ v .form ∷ v .heading ∷ bit (v .met) ∷ v .class ∷ vehicleFigures l
 
-abbrev intervalFigures : Interval → List ℕ
-intervalFigures Stopped = 0 ∷ 0 ∷ []
-intervalFigures (Since minute) = 1 ∷ minute ∷ []
-
-abbrev deskFigures : Desk → List ℕ
-deskFigures d = d .clock ∷ d .last ∷ d .sent ∷ bit (d .out) ∷ d .guest ∷ d .clears .asked ∷ d .clears .holds ∷ d .clears .owes ∷ intervalFigures (d .interval)
-
 abbrev pub figuresOf : Section → List ℕ
-figuresOf s = s .len ∷ bit (s .force) ∷ s .refused ∷ deskFigures (s .a) ++ deskFigures (s .b) ++ vehicleFigures (s .vehicles)
+figuresOf s = s .len ∷ bit (s .force) ∷ s .refused ∷ numbersOf (deskFigures (s .a)) ++ numbersOf (deskFigures (s .b)) ++ vehicleFigures (s .vehicles)
 
 abbrev sameFigures : List ℕ → List ℕ → Bool
 sameFigures [] [] = true

@@ -5,9 +5,9 @@
 -- Assumes nothing.
 use Prim.Native.Nat.{suc, ℕ}
 use Rattle.working.proofs.Computing.{step-computes}
-use Rattle.working.proofs.Literals.{figures, vehicle, withAsked, withClock, withGuest, withHolds, withInterval, withLast, withOut, withOwes, withSent, working}
+use Rattle.working.proofs.Literals.{figures, vehicle, withAsked, withClock, withHolds, withLast, withOwes, withSent, working}
 use Rattle.working.specs.Refusals.{numberOf}
-use Rattle.working.specs.Sections.{freshDesk, numberAt, otherAt, padTo}
+use Rattle.working.specs.Sections.{freshDesk, numberAt, otherAt, padTo, withGuest, withInterval, withOut}
 use Rattle.working.specs.Steps.{stepOf}
 use Rattle.working.specs.declared.Answer.the-variants.{Accepted, Refused}
 use Rattle.working.specs.declared.Answer.{Answer}

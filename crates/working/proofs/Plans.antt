@@ -11,13 +11,15 @@ use Rattle.working.proofs.Tests.{NoneHolds, and, either-most}
 use Rattle.working.specs.Acts as acts
 use Rattle.working.specs.Acts.{Act}
 use Rattle.working.specs.Departures.{kindIn, kindOf}
-use Rattle.working.specs.Effects.{Arrive, Depart, Departing, Order, Plan, Refuse, Standing, arriveDesk, departed, isSlow, nextForm, openForms, openSpeed, throughForms, vehicleFor}
+use Rattle.working.specs.Effects.{Arrive, Depart, Departing, Order, Plan, Refuse, arriveDesk, departed, isSlow, nextForm, openForms, openSpeed, throughForms, vehicleFor}
 use Rattle.working.specs.Reasons.{departTests, isNamed, mayEnter, openTests, receiveTests, returnTests, stationTests, trainTests}
 use Rattle.working.specs.Refusals.{Test, firstOf}
-use Rattle.working.specs.Sections.{numberAt}
+use Rattle.working.specs.Sections.{numberAt, withFigures, withOut}
 use Rattle.working.specs.Steps.{planOf, unlessRefused}
 use Rattle.working.specs.WellMade.{isOpener, notLater}
+use Rattle.working.specs.declared.Clears.{Clears}
 use Rattle.working.specs.declared.Desk.{Desk}
+use Rattle.working.specs.declared.Interval.the-variants.{Since}
 use Rattle.working.specs.declared.Movement.the-variants.{Open, Return, Through, Train}
 use Rattle.working.specs.declared.Movement.{Movement}
 use Rattle.working.specs.declared.Refusal.{Refusal}
@@ -62,21 +64,25 @@ shape-for : (x : Station) (n : ℕ) (m : Movement) (class : ℕ) → MovementMad
 shape-for A n m class made = record { sender = refl; heading = refl; away = refl; unmet = or-true (isOpener m); moves = made }
 shape-for B n m class made = record { sender = refl; heading = refl; away = refl; unmet = or-true (isOpener m); moves = made }
 
+-- the desk after a departure, with what tells the kinds apart
+abbrev leaves : Desk → ℕ → Bool → ℕ → Clears → Desk
+leaves d t out guest clears = withFigures t (nextForm d) (d .sent + 1) (Since t) out guest clears d
+
 -- what each kind has of its own
-record Leaves (act : Act) (d : Desk) (t : ℕ) (to : Standing) (m : Movement) (class : ℕ) (order : Order) : Type 0 where
-  bounds : Bounds (departed d t to)
+record Leaves (act : Act) (d e : Desk) (m : Movement) (class : ℕ) (order : Order) : Type 0 where
+  bounds : Bounds e
   made : MovementMade m class
-  keeps : (o : Desk) (mine theirs : List Movement) → Halves d o mine theirs → Halves (departed d t to) o (m ∷ mine) theirs
+  keeps : (o : Desk) (mine theirs : List Movement) → Halves d o mine theirs → Halves e o (m ∷ mine) theirs
   kind : kindOf act ≡ some (kindIn m)
   slowly : isOpener m ≡ true → (eqb (order .forms % 2) 1 && isSlow (order .speed)) ≡ true
 
 -- a departure whose kind's own tests passed
-departs-by : (act : Act) (x : Station) (force : Bool) (d : Desk) (t : ℕ) (v : Vehicle) (own : List Test) (to : Standing) (m : Movement) (class : ℕ) (order : Order)
-    → (NoneHolds own → Leaves act d t to m class order)
+departs-by : (act : Act) (x : Station) (force : Bool) (d : Desk) (t : ℕ) (v : Vehicle) (own : List Test) (out : Bool) (guest : ℕ) (clears : Clears) (m : Movement) (class : ℕ) (order : Order)
+    → (NoneHolds own → Leaves act d (leaves d t out guest clears) m class order)
     → Fate act x force d t v (unlessRefused (firstOf (departTests force d t own))
-    (Depart (record { desk = departed d t to; vehicle = vehicleFor x (nextForm d) m class; order = order })))
-departs-by act x force d t v own to m class order shows =
-    let plan : Plan = Depart (record { desk = departed d t to; vehicle = vehicleFor x (nextForm d) m class; order = order }) in
+    (Depart (record { desk = leaves d t out guest clears; vehicle = vehicleFor x (nextForm d) m class; order = order })))
+departs-by act x force d t v own out guest clears m class order shows =
+    let plan : Plan = Depart (record { desk = leaves d t out guest clears; vehicle = vehicleFor x (nextForm d) m class; order = order }) in
     scanned (λ r. Fate act x force d t v (unlessRefused r plan)) (departTests force d t own) refuses
     (λ n.
     let p = depart-passes force d t own n in
@@ -110,12 +116,12 @@ opener-fate : (act : Act) (x : Station) (force : Bool) (d : Desk) (t : ℕ) (v :
     → isOpener m ≡ true → (OpenPasses d → out ≡ isOpen m) → MovementMade m class → kindOf act ≡ some (kindIn m) → eqb (forms % 2) 1 ≡ true
     → Fate act x force d t v (unlessRefused (firstOf (departTests force d t (openTests d)))
     (Depart (record {
-      desk = departed d t (record { out = out; guest = d .guest; clears = d .clears });
+      desk = withOut out (departed d t);
       vehicle = vehicleFor x (nextForm d) m class;
       order = record { forms = forms; speed = openSpeed w };
     })))
 opener-fate act x force d t v out m class forms w b is out-is made kind odd =
-    departs-by act x force d t v (openTests d) _ m class _
+    departs-by act x force d t v (openTests d) _ _ _ m class _
     (λ n.
     let p = open-passes d n in
     record {
@@ -132,22 +138,25 @@ fate (acts.Open w class asked) x force d t v made b =
     opener-fate (acts.Open w class asked) x force d t v true (Open asked) class openForms w b refl (λ p. refl) made refl refl
 fate (acts.Through w) x force d t v made b = opener-fate (acts.Through w) x force d t v (d .out) Through 1 throughForms w b refl (λ p. p .out) (omega arith) refl refl
 fate (acts.Return asked granted) x force d t v few b =
-    departs-by (acts.Return asked granted) x force d t v (returnTests d granted) _ (Return asked granted) (d .guest) _
+    departs-by (acts.Return asked granted) x force d t v (returnTests d granted) _ _ _ (Return asked granted) (d .guest) _
     (λ n.
     let p = return-passes d granted n in
+    let owes : d .clears .owes ≤ 8 = omega arith in
     record {
-      bounds = omega (arith, either-most (ltb 0 granted) (few .granted) (b .owes));
+      bounds = omega (arith, either-most (ltb 0 granted) (few .granted) owes);
       made = omega (arith, p .guest);
       keeps = λ o mine theirs h. kept-return d o t asked granted mine theirs h p;
       kind = refl;
       slowly = λ q. absurd (false≢true q);
     })
 fate (acts.Train w asked granted) x force d t v few b =
-    departs-by (acts.Train w asked granted) x force d t v (trainTests d granted) _ (Train asked granted) 0 _
+    departs-by (acts.Train w asked granted) x force d t v (trainTests d granted) _ _ _ (Train asked granted) 0 _
     (λ n.
     let none : 0 ≤ 8 = omega arith in
+    let enquired : d .clears .asked ≤ 8 = omega arith in
+    let owes : d .clears .owes ≤ 8 = omega arith in
     record {
-      bounds = omega (arith, either-most (ltb 0 granted) none (b .asked), either-most (ltb 0 granted) (few .granted) (b .owes));
+      bounds = omega (arith, either-most (ltb 0 granted) none enquired, either-most (ltb 0 granted) (few .granted) owes);
       made = omega arith;
       keeps = λ o mine theirs h. kept-train d o t asked granted mine theirs h (train-passes d granted n);
       kind = refl;

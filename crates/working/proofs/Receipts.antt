@@ -1,14 +1,16 @@
 -- What a receipt does to the desk, by what the vehicle left on: the figures stay in range, and the invariant is kept.
 -- Assumes nothing.
-use Prim.Native.Nat.{_-_, ℕ}
+use Prim.Native.Nat.{_-_, _≤_, ℕ}
 use Rattle.working.proofs.Clauses.{Bounds, MovementMade}
 use Rattle.working.proofs.Invariant.{Halves, kept-far, kept-guest, kept-own}
 use Rattle.working.proofs.Tests.{both, either-most}
-use Rattle.working.specs.Effects.{Standing, arriveDesk, otherDesk, ownDesk, received}
+use Rattle.working.specs.Effects.{arriveDesk, otherDesk, ownDesk}
 use Rattle.working.specs.Reasons.{mayEnter}
-use Rattle.working.specs.Sections.{numberAt}
+use Rattle.working.specs.Sections.{numberAt, withFigures}
 use Rattle.working.specs.WellMade.{isFrom, isOpener, notLater}
+use Rattle.working.specs.declared.Clears.{Clears}
 use Rattle.working.specs.declared.Desk.{Desk}
+use Rattle.working.specs.declared.Interval.the-variants.{Stopped}
 use Rattle.working.specs.declared.Movement.the-variants.{Open, Return, Through, Train}
 use Rattle.working.specs.declared.Movement.{Movement}
 use Rattle.working.specs.declared.Station.{Station}
@@ -28,20 +30,28 @@ pub record Arrives (d e : Desk) (n : ℕ) : Type 0 where
   pub bounds : Bounds e
   pub interval : notLater (e .interval) (e .clock) ≡ true
 
-arrived : (d : Desk) (t n : ℕ) (to : Standing) → Bounds (received d t n to) → Arrives d (received d t n to) n
-arrived d t n to b = record { last = refl; sent = refl; bounds = b; interval = refl }
+-- the desk after a receipt, with what tells the kinds apart
+abbrev arrival : Desk → ℕ → ℕ → Bool → ℕ → Clears → Desk
+arrival d t sent out guest clears = withFigures t (d .last) sent Stopped out guest clears d
+
+arrived : (d : Desk) (t n : ℕ) (out : Bool) (guest : ℕ) (clears : Clears) → Bounds (arrival d t n out guest clears) → Arrives d (arrival d t n out guest clears) n
+arrived d t n out guest clears b = record { last = refl; sent = refl; bounds = b; interval = refl }
 
 pub arrives-own : (d : Desk) (t : ℕ) (m : Movement) → isOpener m ≡ true → Bounds d → Arrives d (ownDesk d t m) (d .sent - 1)
-arrives-own d t (Open a) is b = arrived d t (d .sent - 1) _ (omega arith)
-arrives-own d t Through is b = arrived d t (d .sent - 1) _ (omega arith)
+arrives-own d t (Open a) is b = arrived d t (d .sent - 1) _ _ _ (omega arith)
+arrives-own d t Through is b = arrived d t (d .sent - 1) _ _ _ (omega arith)
 arrives-own d t (Return a g) is b = absurd (false≢true is)
 arrives-own d t (Train a g) is b = absurd (false≢true is)
 
 pub arrives-far : (d : Desk) (t class : ℕ) (m : Movement) → MovementMade m class → Bounds d → Arrives d (otherDesk d t class m) 0
-arrives-far d t class (Open a) made b = arrived d t 0 _ (omega arith)
-arrives-far d t class Through made b = arrived d t 0 _ (omega arith)
-arrives-far d t class (Return a g) made b = arrived d t 0 _ (omega (arith, either-most (ltb 0 a) (made .asked) (b .asked)))
-arrives-far d t class (Train a g) made b = arrived d t 0 _ (omega (arith, either-most (ltb 0 a) (made .asked) (b .asked)))
+arrives-far d t class (Open a) made b = arrived d t 0 _ _ _ (omega arith)
+arrives-far d t class Through made b = arrived d t 0 _ _ _ (omega arith)
+arrives-far d t class (Return a g) made b =
+    let enquired : d .clears .asked ≤ 8 = omega arith in
+    arrived d t 0 _ _ _ (omega (arith, either-most (ltb 0 a) (made .asked) enquired))
+arrives-far d t class (Train a g) made b =
+    let enquired : d .clears .asked ≤ 8 = omega arith in
+    arrived d t 0 _ _ _ (omega (arith, either-most (ltb 0 a) (made .asked) enquired))
 
 -- ---- the invariant
 

@@ -2,7 +2,7 @@
 use Prim.Native.Nat.{_+_, _-_, ℕ}
 use Rattle.working.specs.Acts as acts
 use Rattle.working.specs.Acts.{Act}
-use Rattle.working.specs.Sections.{numberAt, otherAt}
+use Rattle.working.specs.Sections.{numberAt, otherAt, withClears, withEntered, withGuest, withOut}
 use Rattle.working.specs.declared.Clears.{Clears}
 use Rattle.working.specs.declared.Desk.{Desk}
 use Rattle.working.specs.declared.Interval.the-variants.{Since, Stopped}
@@ -73,16 +73,9 @@ vehicleFor x form movement class = record { movement = movement; sender = number
 abbrev pub nextForm : Desk → ℕ
 nextForm d = d .last + 1
 
--- what an act makes of the figures that tell the kinds apart
-pub record Standing : Type 0 where
-  pub out : Bool
-  pub guest : ℕ
-  pub clears : Clears
-
 -- "takes the next form number of S, .. adds 1 to sent and starts the interval"
-abbrev pub departed : Desk → ℕ → Standing → Desk
-departed d time to =
-    record { clock = time; last = nextForm d; sent = d .sent + 1; interval = Since time; out = to .out; guest = to .guest; clears = to .clears }
+abbrev pub departed : Desk → ℕ → Desk
+departed d time = withEntered time (nextForm d) (d .sent + 1) (Since time) d
 
 -- n where it is above 0, else what stood there
 abbrev pub ifAny : ℕ → ℕ → ℕ
@@ -90,37 +83,36 @@ ifAny n before = cond (ltb 0 n) n before
 
 -- "OPEN: out is set."
 abbrev pub openDesk : Desk → ℕ → Desk
-openDesk d time = departed d time (record { out = true; guest = d .guest; clears = d .clears })
+openDesk d time = withOut true (departed d time)
 
 -- "THROUGH: nothing more."
 abbrev pub throughDesk : Desk → ℕ → Desk
-throughDesk d time = departed d time (record { out = d .out; guest = d .guest; clears = d .clears })
+throughDesk d time = departed d time
 
 -- "RETURN: guest and asked at S cleared; .. granted above 0 becomes S's owes"
 abbrev pub returnClears : Clears → ℕ → Clears
 returnClears c granted = record { asked = 0; holds = c .holds; owes = ifAny granted (c .owes) }
 
 abbrev pub returnDesk : Desk → ℕ → ℕ → Desk
-returnDesk d time granted = departed d time (record { out = d .out; guest = 0; clears = returnClears (d .clears) granted })
+returnDesk d time granted = withClears (returnClears (d .clears) granted) (withGuest 0 (departed d time))
 
 -- "TRAIN: holds falls by 1; .. granted above 0 becomes owes and clears S's asked"
 abbrev pub trainClears : Clears → ℕ → Clears
 trainClears c granted = record { asked = cond (ltb 0 granted) 0 (c .asked); holds = c .holds - 1; owes = ifAny granted (c .owes) }
 
 abbrev pub trainDesk : Desk → ℕ → ℕ → Desk
-trainDesk d time granted = departed d time (record { out = d .out; guest = d .guest; clears = trainClears (d .clears) granted })
+trainDesk d time granted = withClears (trainClears (d .clears) granted) (departed d time)
 
 -- ---- receipts
 
 -- "stops S's interval"
-abbrev pub received : Desk → ℕ → ℕ → Standing → Desk
-received d time sent to =
-    record { clock = time; last = d .last; sent = sent; interval = Stopped; out = to .out; guest = to .guest; clears = to .clears }
+abbrev pub received : Desk → ℕ → ℕ → Desk
+received d time sent = withEntered time (d .last) sent Stopped d
 
 -- "S's own OPEN or THROUGH: sent falls by 1, papers cancelled, OPEN clears out." No other of S's own may enter.
 abbrev pub ownDesk : Desk → ℕ → Movement → Desk
-ownDesk d time (Open asked) = received d time (d .sent - 1) (record { out = false; guest = d .guest; clears = d .clears })
-ownDesk d time Through = received d time (d .sent - 1) (record { out = d .out; guest = d .guest; clears = d .clears })
+ownDesk d time (Open asked) = withOut false (received d time (d .sent - 1))
+ownDesk d time Through = received d time (d .sent - 1)
 ownDesk d time (Return asked granted) = d
 ownDesk d time (Train asked granted) = d
 
@@ -134,12 +126,10 @@ broughtClears c asked granted owes = record { asked = ifAny asked (c .asked); ho
 
 -- "One from O: sent becomes 0, and OPEN makes guest and asked; RETURN clears out; TRAIN lowers owes by 1, not below 0"
 abbrev pub otherDesk : Desk → ℕ → ℕ → Movement → Desk
-otherDesk d time class (Open asked) = received d time 0 (record { out = d .out; guest = class; clears = openedClears (d .clears) asked })
-otherDesk d time class Through = received d time 0 (record { out = d .out; guest = d .guest; clears = d .clears })
-otherDesk d time class (Return asked granted) =
-    received d time 0 (record { out = false; guest = d .guest; clears = broughtClears (d .clears) asked granted (d .clears .owes) })
-otherDesk d time class (Train asked granted) =
-    received d time 0 (record { out = d .out; guest = d .guest; clears = broughtClears (d .clears) asked granted (d .clears .owes - 1) })
+otherDesk d time class (Open asked) = withClears (openedClears (d .clears) asked) (withGuest class (received d time 0))
+otherDesk d time class Through = received d time 0
+otherDesk d time class (Return asked granted) = withClears (broughtClears (d .clears) asked granted (d .clears .owes)) (withOut false (received d time 0))
+otherDesk d time class (Train asked granted) = withClears (broughtClears (d .clears) asked granted (d .clears .owes - 1)) (received d time 0)
 
 abbrev pub arriveDesk : Station → Desk → ℕ → Vehicle → Desk
 arriveDesk x d time v = cond (eqb (v .sender) (numberAt x)) (ownDesk d time (v .movement)) (otherDesk d time (v .class) (v .movement))

@@ -3,6 +3,7 @@ use Prim.Native.Nat.{_+_, _-_, suc, zero, ℕ}
 use Rattle.working.specs.declared.Clears.{Clears}
 use Rattle.working.specs.declared.Desk.{Desk}
 use Rattle.working.specs.declared.Interval.the-variants.{Stopped}
+use Rattle.working.specs.declared.Interval.{Interval}
 use Rattle.working.specs.declared.Movement.the-variants.{Open}
 use Rattle.working.specs.declared.Section.{Section}
 use Rattle.working.specs.declared.Station.the-variants.{A, B}
@@ -55,6 +56,27 @@ nearestAt A l = getD l 0 unused
 nearestAt B l = getD l (length l - 1) unused
 
 -- ---- the desks
+
+-- a desk with these in place of its own figures; one that is not among them stays as it was
+abbrev pub withFigures : ℕ → ℕ → ℕ → Interval → Bool → ℕ → Clears → Desk → Desk
+withFigures clock last sent interval out guest clears d =
+    record { clock = clock; last = last; sent = sent; interval = interval; out = out; guest = guest; clears = clears }
+
+-- what every departure and every receipt alters, and what tells the kinds apart
+abbrev pub withEntered : ℕ → ℕ → ℕ → Interval → Desk → Desk
+withEntered clock last sent interval d = withFigures clock last sent interval (d .out) (d .guest) (d .clears) d
+
+abbrev pub withInterval : Interval → Desk → Desk
+withInterval interval d = withEntered (d .clock) (d .last) (d .sent) interval d
+
+abbrev pub withOut : Bool → Desk → Desk
+withOut out d = withFigures (d .clock) (d .last) (d .sent) (d .interval) out (d .guest) (d .clears) d
+
+abbrev pub withGuest : ℕ → Desk → Desk
+withGuest guest d = withFigures (d .clock) (d .last) (d .sent) (d .interval) (d .out) guest (d .clears) d
+
+abbrev pub withClears : Clears → Desk → Desk
+withClears clears d = withFigures (d .clock) (d .last) (d .sent) (d .interval) (d .out) (d .guest) clears d
 
 abbrev pub deskOf : Section → Station → Desk
 deskOf s A = s .a

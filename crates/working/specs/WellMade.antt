@@ -1,7 +1,7 @@
 -- Document 01, "The section": when a section is well made, clause by clause.
 use Prim.Native.Nat.{_+_, ℕ}
 use Rattle.working.specs.Entries.{every}
-use Rattle.working.specs.Sections.{deskOf, vehiclesOf, numberAt}
+use Rattle.working.specs.Sections.{deskOf, freshDesk, vehiclesOf, numberAt}
 use Rattle.working.specs.declared.Desk.{Desk}
 use Rattle.working.specs.declared.Interval.the-variants.{Since, Stopped}
 use Rattle.working.specs.declared.Interval.{Interval}
@@ -12,9 +12,9 @@ use Rattle.working.specs.declared.Station.the-variants.{A, B}
 use Rattle.working.specs.declared.Station.{Station}
 use Rattle.working.specs.declared.Vehicle.{Vehicle}
 use lib.Dec.{eqb, leb}
-use lib.ListN.{drop}
+use lib.ListN.{drop, length}
 use mathlib.Core.Bool.{Bool, _&&_, _||_, cond, false, not, true}
-use mathlib.Core.List.{List, [], _∷_}
+use mathlib.Core.List.{List, [], _++_, _∷_}
 
 -- ---- the vehicles
 
@@ -100,16 +100,55 @@ abbrev pub notLater : Interval → ℕ → Bool
 notLater Stopped clock = true
 notLater (Since minute) clock = leb minute clock
 
+-- none is 0, and a minute is one more than itself
+abbrev pub intervalNumber : Interval → ℕ
+intervalNumber Stopped = 0
+intervalNumber (Since minute) = minute + 1
+
+-- a figure as a number, and its range
+pub data Range : Type 0 where
+  any : Range
+  upTo : ℕ → Range
+
+abbrev pub Figure : Type 0
+Figure = ℕ × Range
+
+-- the figures of a desk, in document 01's order
+abbrev pub deskFigures : Desk → List Figure
+deskFigures d =
+    (d .clock, any)  -- "minute of its last accepted entry"
+    ∷ (d .last, upTo 9999)  -- "last form number, 0 to 9,999"
+    ∷ (d .sent, upTo 12)  -- "departures counted, 0 to 12"
+    ∷ (intervalNumber (d .interval), any)  -- "running interval: none, or the minute of the last departure"
+    ∷ (oneIf (d .out), any)  -- "whether its own opener is away"
+    ∷ (d .guest, upTo 5)  -- "0, or the class of the other station's opener standing here"
+    ∷ (d .clears .asked, upTo 8)  -- "trains the other station has enquired for, unanswered, 0 to 8"
+    ∷ (d .clears .holds, upTo 8)  -- "line clears for its own trains, 0 to 8"
+    ∷ (d .clears .owes, upTo 8)  -- "line clears given and not yet arrived, 0 to 8"
+    ∷ []
+
+abbrev pub numbersOf : List Figure → List ℕ
+numbersOf [] = []
+numbersOf (f ∷ fs) = f .0 ∷ numbersOf fs
+
+-- how many they are
+abbrev pub deskLength : ℕ
+deskLength = length (deskFigures freshDesk)
+
+-- "ranges hold"
+abbrev pub within : ℕ → Range → Bool
+within n any = true
+within n (upTo most) = leb n most
+
+abbrev pub rangeTests : List Figure → List Bool
+rangeTests [] = []
+rangeTests (f ∷ fs) = within (f .0) (f .1) ∷ rangeTests fs
+
 -- the desk of station number n, beside the vehicles present
 abbrev pub deskTests : ℕ → Desk → List Vehicle → List Bool
 deskTests n d l =
-    leb (d .last) 9999
-    ∷ leb (d .sent) 12
-    ∷ leb (countFrom n l) (d .sent)  -- "each sent is at least that station's vehicles present"
-    ∷ leb (d .guest) 5
-    ∷ leb (d .clears .asked) 8
-    ∷ leb (d .clears .holds) 8
-    ∷ leb (d .clears .owes) 8
+    rangeTests (deskFigures d)
+    ++ leb (countFrom n l) (d .sent)  -- "each sent is at least that station's vehicles present"
     ∷ notLater (d .interval) (d .clock)
     ∷ all (numbered n (d .last)) l
     ∷ []
@@ -119,12 +158,13 @@ deskMade s x = every (deskTests (numberAt x) (deskOf s x) (vehiclesOf s))
 
 -- ---- the section
 
-abbrev pub isStopped : Interval → Bool
-isStopped Stopped = true
-isStopped (Since minute) = false
+-- "all else is zero or none"
+abbrev pub zeroTests : List ℕ → List Bool
+zeroTests [] = []
+zeroTests (n ∷ ns) = eqb n 0 ∷ zeroTests ns
 
 abbrev pub isFreshDesk : Desk → Bool
-isFreshDesk d = every (eqb (d .clock) 0 ∷ eqb (d .last) 0 ∷ eqb (d .sent) 0 ∷ isStopped (d .interval) ∷ not (d .out) ∷ eqb (d .guest) 0 ∷ eqb (d .clears .asked) 0 ∷ eqb (d .clears .holds) 0 ∷ eqb (d .clears .owes) 0 ∷ [])
+isFreshDesk d = every (zeroTests (numbersOf (deskFigures d)))
 
 -- "not in force, all but the count is as fresh"
 abbrev pub isIdle : Section → Bool

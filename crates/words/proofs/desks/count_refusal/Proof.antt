@@ -1,4 +1,4 @@
--- `figures::count_refusal` meets its contract: the word stored is the only one that is altered, and it is in range.
+-- `desks::count_refusal` meets its contract: the word stored is the only one that is altered, and it is in range.
 -- Assumes nothing.
 use Rattle.words.proofs.DeskWords.{count-becomes}
 use Rattle.words.proofs.desks.count_refusal.Statement.{statement}

@@ -1,37 +1,21 @@
--- `figures::desk` meets its contract: each figure is read as the definition reads it.
+-- `desks::desk` meets its contract: the words from a station's first on are the words of its desk, with others behind them.
 -- Assumes nothing.
-use Rattle.words.proofs.DeskWords.{desk-at}
+use Rattle.words.proofs.DeskWords.{desk-at, desk-first, desk-fits}
 use Rattle.words.proofs.desks.desk.Statement.{statement}
 use Rattle.words.proofs.desks.desk.Tie as tie
+use Rattle.words.specs.Words.{deskFrom, wordCount}
 use borrow.Author.Needs.{needs}
+use lib.ListN.{length, length-drop, length-take}
+use mathlib.Core.Path.{_∙_, _≡_, sym}
+use native.Mathlib.Omega.{arith}
 
 returns : tie.Need-returns
 returns c =
-    let holds = c .before in
-    let asked = holds .before in
-    let guest = asked .before in
-    let out = guest .before in
-    let interval = out .before in
-    let sent = interval .before .before in
-    let last = sent .before in
-    let clock = last .before in
-    let a = clock .before .args in
-    rw (desk-at (a .words .now) (a .at), clock .short-at .ensures, last .short-at2 .ensures, sent .byte-at .ensures)
-    (rw (interval .interval-in .ensures, interval .before .word-at .ensures, out .word-at2 .ensures, guest .byte-at2 .ensures)
-    (rw (asked .byte-at3 .ensures, holds .byte-at4 .ensures, c .byte-at5 .ensures)))
+    let a = c .before .before .before .before .args in
+    let w = a .words .now in
+    let long : length w ≡ wordCount = search needs in
+    let first = deskFrom (a .at) in
+    rw (c .desk-in .ensures, c .before .before .desk-from .ensures .0) (desk-first w first (omega (arith, desk-fits (a .at))) ∙ sym (desk-at w (a .at)))
 
 pub desk-spec : {M : Type 1} → statement M
-desk-spec =
-    tie.close
-    (tie.spec
-    (λ c κs. search needs)
-    (λ c κs. search needs)
-    (λ c κs. search needs)
-    (λ c κs. search needs)
-    (λ c κs. search needs)
-    (λ c κs. search needs)
-    (λ c κs. search needs)
-    (λ c κs. search needs)
-    (λ c κs. search needs)
-    (λ c κs. search needs)
-    returns)
+desk-spec = tie.close (tie.spec (λ c κs. search needs) (λ c. search needs) (λ c. search needs) (λ c. search needs) (λ c. search needs) (λ c κs. simp (length-take, length-drop) (omega arith)) returns)

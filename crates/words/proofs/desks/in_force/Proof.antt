@@ -1,4 +1,4 @@
--- `figures::in_force` meets its contract: the word says so.
+-- `desks::in_force` meets its contract: the word says so.
 -- Assumes nothing.
 use Rattle.words.proofs.desks.in_force.Statement.{statement}
 use Rattle.words.proofs.desks.in_force.Tie as tie

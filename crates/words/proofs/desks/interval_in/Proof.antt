@@ -1,4 +1,4 @@
--- `figures::interval_in` meets its contract: a word that is not 0 is one more than its minute.
+-- `desks::interval_in` meets its contract: a word that is not 0 is one more than its minute.
 -- Assumes nothing.
 use Rattle.words.proofs.DeskWords.{interval-since}
 use Rattle.words.proofs.desks.interval_in.Statement.{statement}

@@ -1,4 +1,4 @@
--- `figures::one_more_refused` meets its contract: each arm is the definition at the test that led there.
+-- `desks::one_more_refused` meets its contract: each arm is the definition at the test that led there.
 -- Assumes nothing.
 use Rattle.words.proofs.desks.one_more_refused.Statement.{statement}
 use Rattle.words.proofs.desks.one_more_refused.Tie as tie

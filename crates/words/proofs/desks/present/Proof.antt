@@ -1,4 +1,4 @@
--- `figures::present` meets its contract: the word says so.
+-- `desks::present` meets its contract: the word says so.
 -- Assumes nothing.
 use Rattle.words.proofs.desks.present.Statement.{statement}
 use Rattle.words.proofs.desks.present.Tie as tie

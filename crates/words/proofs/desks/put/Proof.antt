@@ -1,11 +1,12 @@
--- `figures::put` meets its contract: a word stored among those of a desk alters no other.
+-- `desks::put` meets its contract: a word stored among those of a desk alters no other.
 -- Assumes nothing.
 use Prim.Native.Nat.{_+_}
 use Rattle.words.proofs.DeskWords.{desk-fits}
 use Rattle.words.proofs.Written.{words-set}
 use Rattle.words.proofs.desks.put.Statement.{statement}
 use Rattle.words.proofs.desks.put.Tie as tie
-use Rattle.words.specs.Words.{deskFrom, deskLength, wordCount}
+use Rattle.words.specs.Words.{deskFrom, wordCount}
+use Rattle.working.specs.WellMade.{deskLength}
 use borrow.Author.Needs.{needs}
 use lib.ListN.{length, length-set}
 use lib.Seq.{drop-set-lt, take-set-le}

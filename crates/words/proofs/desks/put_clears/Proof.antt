@@ -1,4 +1,4 @@
--- `figures::put_clears` meets its contract: three words of the desk, each in range of its type.
+-- `desks::put_clears` meets its contract: three words of the desk, each in range of its type.
 -- Assumes nothing.
 use Prim.Native.Nat.{_%_}
 use Rattle.words.proofs.DeskWords.{desk-becomes, put-next}

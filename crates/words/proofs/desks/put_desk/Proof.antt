@@ -1,26 +1,69 @@
--- `figures::put_desk` meets its contract: what an entry alters, and the others, are the whole desk.
+-- `desks::put_desk` meets its contract. The loop's invariant: the first `i` words of the desk are its figures, and the others as they were.
 -- Assumes nothing.
-use Rattle.words.proofs.Becoming.{desk-then}
+use Prim.Native.Nat.{_+_, _-_, _≤_}
+use Rattle.words.proofs.DeskWords.{Same, desk-back, desk-becomes, figure-next, figures-all, interval-back, put-as, put-next}
+use Rattle.words.proofs.Packing.{one-back}
+use Rattle.words.proofs.Written.{words-count}
 use Rattle.words.proofs.desks.put_desk.Statement.{statement}
 use Rattle.words.proofs.desks.put_desk.Tie as tie
-use Rattle.words.specs.Words.{withClears, withEntered, withGuest, withOut}
-use Rattle.working.specs.declared.Desk.{Desk}
+use Rattle.words.specs.Stores.{DeskPut}
+use Rattle.words.specs.Words.{deskFrom, deskRead, deskWords, deskWordsIn}
+use Rattle.working.specs.WellMade.{deskLength, intervalNumber, oneIf}
 use borrow.Author.Needs.{needs}
+use lib.ListN.{drop, length, take}
+use mathlib.Core.List.{_++_}
+use mathlib.Core.Path.{_≡_, ap, refl}
+use native.Mathlib.Omega.{arith}
 
-returns : tie.Need-returns
+abbrev Inv-loop : tie.InvT-loop
+Inv-loop words at figures i₀ words₁ i = (i ≤ deskLength) × DeskPut words words₁ at (λ t. take i figures ++ drop i t)
+
+abbrev μ-loop : tie.MeasureT-loop
+μ-loop words at figures i₀ words₁ i = deskLength - i
+
+loop-holds : tie.Need-loop-holds Inv-loop μ-loop
+loop-holds c = (omega arith, record { long = search needs; same = refl; desk = refl; ahead = refl; behind = refl })
+
+loop-again : tie.Need-loop-again Inv-loop μ-loop
+loop-again c =
+    let l = c .before .before .before .loop in
+    let start = c .before .before .before .before in
+    let a = start .before .before .before .args in
+    let f = start .figures .result in
+    let t = deskWordsIn (a .words .now) (a .at) in
+    let count : length t ≡ deskLength = words-count (deskFrom (a .at)) deskLength (a .words .now) in
+    let long : length f ≡ deskLength = search needs in
+    (omega arith, put-as (λ u. take (l .i + 1) f ++ drop (l .i + 1) u) (put-next (l .inv .1) (c .put .ensures)) (figure-next f t (l .i) (omega arith) (omega arith)))
+
+returns : tie.Need-returns Inv-loop μ-loop
 returns c =
-    let guest = c .before .before in
-    let out = guest .before .before in
-    let entered = out .before .before in
-    let a = entered .before .before .before .args in
+    let l = c .before .loop in
+    let start = c .before .before in
+    let first = start .before .before .before in
+    let a = first .args in
+    let f = start .figures .result in
+    let t = deskWordsIn (a .words .now) (a .at) in
+    let count : length t ≡ deskLength = words-count (deskFrom (a .at)) deskLength (a .words .now) in
+    let long : length f ≡ deskLength = search needs in
     let d = a .d in
-    let first = withEntered (d .clock) (d .last) (d .sent) (d .interval) in
-    let second : Desk → Desk = λ z. withOut (d .out) (first z) in
-    let third : Desk → Desk = λ z. withGuest (d .guest) (second z) in
-    desk-then (a .at) third (withClears (d .clears)) (desk-then (a .at) second (withGuest (d .guest))
-    (desk-then (a .at) first (withOut (d .out)) (entered .put-entered .ensures) (out .put-out .ensures)) (guest .put-guest .ensures)) (c .put-clears .ensures)
+    let less = start .figures .ensures .1 in
+    let same : Same (deskWords (deskRead (deskWords d))) (deskWords d) =
+    omega (arith, first .good .1 .1 .0, ap oneIf (one-back (d .out)), ap intervalNumber (interval-back (d .interval) less)) in
+    desk-becomes (λ z. d) (put-as (λ u. f) (l .inv .1) (figures-all f t (l .i) (omega arith) (omega arith)))
+    (rw (start .figures .ensures .0) (desk-back d less same)) (λ z. start .figures .ensures .0)
 
 pub put-desk-spec : {M : Type 1} → statement M
 put-desk-spec =
     tie.close
-    (tie.spec (λ c κs. search needs) (λ c κs. search needs) (λ c κs. search needs) (λ c κs. search needs) returns)
+    (tie.spec
+    Inv-loop
+    μ-loop
+    (λ c κs. search needs)
+    loop-holds
+    (λ c. omega arith)
+    (λ c. omega arith)
+    (λ c κs. search needs)
+    (λ c. omega arith)
+    (λ c. omega arith)
+    loop-again
+    returns)

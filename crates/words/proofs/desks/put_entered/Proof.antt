@@ -1,10 +1,10 @@
--- `figures::put_entered` meets its contract: four words of the desk, each in range of its type.
+-- `desks::put_entered` meets its contract: four words of the desk, each in range of its type.
 -- Assumes nothing.
 use Prim.Native.Nat.{_%_}
-use Rattle.words.proofs.DeskWords.{desk-becomes, put-next}
+use Rattle.words.proofs.DeskWords.{desk-becomes, interval-back, put-next}
 use Rattle.words.proofs.desks.put_entered.Statement.{statement}
 use Rattle.words.proofs.desks.put_entered.Tie as tie
-use Rattle.words.specs.Words.{withEntered}
+use Rattle.working.specs.Sections.{withEntered}
 use borrow.Author.Needs.{needs}
 use mathlib.Core.Path.{_≡_}
 use native.Mathlib.Nat.{mod-eq-of-lt}
@@ -17,12 +17,13 @@ returns c =
     let second = third .before .before in
     let first = second .before .before in
     let a = first .before .before .args in
+    let since = interval .number .ensures in
     let clock : a .clock % 65536 ≡ a .clock = mod-eq-of-lt (omega arith) in
     let last : a .last % 65536 ≡ a .last = mod-eq-of-lt (omega arith) in
     let sent : a .sent % 256 ≡ a .sent = mod-eq-of-lt (omega arith) in
     desk-becomes (withEntered (a .clock) (a .last) (a .sent) (a .interval))
     (put-next (put-next (put-next (first .put .ensures) (second .put2 .ensures)) (third .put3 .ensures)) (c .put4 .ensures))
-    (rw (clock, last, sent, interval .interval-word .ensures .1)) (λ d. rw (interval .interval-word .ensures .0))
+    (rw (clock, last, sent, since .0, interval-back (a .interval) (omega arith))) (λ d. rw (since .0))
 
 pub put-entered-spec : {M : Type 1} → statement M
 put-entered-spec =

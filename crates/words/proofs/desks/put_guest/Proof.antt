@@ -1,4 +1,4 @@
--- `figures::put_guest` meets its contract: one word of the desk, in range of its type.
+-- `desks::put_guest` meets its contract: one word of the desk, in range of its type.
 -- Assumes nothing.
 use Prim.Native.Nat.{_%_}
 use Rattle.words.proofs.DeskWords.{desk-becomes}

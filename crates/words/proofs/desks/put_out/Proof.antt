@@ -1,4 +1,4 @@
--- `figures::put_out` meets its contract: 1 or 0 comes back as the test.
+-- `desks::put_out` meets its contract: 1 or 0 comes back as the test.
 -- Assumes nothing.
 use Rattle.words.proofs.DeskWords.{desk-becomes}
 use Rattle.words.proofs.Packing.{one-back}

@@ -1,4 +1,4 @@
--- `figures::refused` meets its contract: the word says so.
+-- `desks::refused` meets its contract: the word says so.
 -- Assumes nothing.
 use Rattle.words.proofs.desks.refused.Statement.{statement}
 use Rattle.words.proofs.desks.refused.Tie as tie

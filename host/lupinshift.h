@@ -38,8 +38,8 @@ size_t lupin_list(const uint8_t *log, size_t log_len, uint8_t *out, size_t out_l
    to every call. The texts put, one after another, are the listing, whatever the lengths of the buffers.
 
    lupin_begin puts the start of the listing into the first LUPIN_STATE_WORDS numbers of state and answers LUPIN_STATE_WORDS.
-   Refused where state has fewer. The numbers say where the listing stands and are not for reading: the same place may be told by
-   different numbers. They may be copied, and a copy goes on from there. */
+   Refused where state has fewer. The numbers say where the listing stands and are not for reading, though the log and the blocks taken
+   determine each of them. They may be copied, and a copy goes on from there. */
 size_t lupin_begin(const uint8_t *log, size_t log_len, uint64_t *state, size_t state_len);
 
 /* Puts the next lines of the listing, as many as there is room for, at the front of out, answers how many bytes they are, and leaves

@@ -5,7 +5,7 @@ use Rattle.working.proofs.Every.{Every, all-every, every-all}
 use Rattle.working.proofs.Tests.{Each, and, both, each-holds, every-holds}
 use Rattle.working.specs.Entries.{every}
 use Rattle.working.specs.Sections.{deskOf, vehiclesOf, numberAt}
-use Rattle.working.specs.WellMade.{Figure, Range, all, any, countFrom, deskFigures, deskTests, differ, isBlank, isFrom, isIdle, isOpener, madeTests, movementTests, notLater, numbered, ordered, shaped, upTo, vehicleTests, wellMade}
+use Rattle.working.specs.WellMade.{Figure, Range, all, any, countFrom, deskFigures, deskTests, differ, isBlank, isBlankMovement, isFrom, isIdle, isOpener, madeTests, movementTests, notLater, numbered, ordered, shaped, upTo, vehicleTests, wellMade}
 use Rattle.working.specs.declared.Desk.{Desk}
 use Rattle.working.specs.declared.Movement.the-variants.{Open, Return, Through, Train}
 use Rattle.working.specs.declared.Movement.{Movement}
@@ -13,10 +13,10 @@ use Rattle.working.specs.declared.Section.{Section}
 use Rattle.working.specs.declared.Station.the-variants.{A, B}
 use Rattle.working.specs.declared.Station.{Station}
 use Rattle.working.specs.declared.Vehicle.{Vehicle}
-use borrow.Author.Tests.{eq-eqb, eqb-true, le-leb, leb-true}
+use borrow.Author.Tests.{eq-eqb, eqb-true, le-leb, leb-true, not-true}
 use lib.Dec.{eqb, leb}
 use lib.ListN.{drop}
-use mathlib.Core.Bool.{Bool, _&&_, _||_, false, not, true}
+use mathlib.Core.Bool.{Bool, _&&_, _||_, false, false≢true, not, true}
 use mathlib.Core.List.{List, [], _∷_}
 use mathlib.Core.Path.{_≡_, refl}
 use native.Mathlib.Omega.{arith}
@@ -73,6 +73,28 @@ shape-of v h = let e = each-holds (vehicleTests v) h in search movement-made dep
 
 pub shape-tests : (v : Vehicle) → Shape v → shaped v ≡ true
 shape-tests v s = every-holds (vehicleTests v) (search movement-tests)
+
+-- ---- an unused place
+
+pub record Blank (v : Vehicle) : Type 0 where
+  pub movement : v .movement ≡ Open 0
+  pub sender : v .sender ≡ 0
+  pub form : v .form ≡ 0
+  pub heading : v .heading ≡ 0
+  pub met : v .met ≡ false
+  pub class : v .class ≡ 0
+
+blank-movement : (m : Movement) → isBlankMovement m ≡ true → m ≡ Open 0
+blank-movement (Open a) h = rw (eqb-true a 0 h)
+blank-movement Through h = absurd (false≢true h)
+blank-movement (Return a g) h = absurd (false≢true h)
+blank-movement (Train a g) h = absurd (false≢true h)
+
+pub blank-made : (v : Vehicle) → isBlank v ≡ true → Blank v
+blank-made v h =
+    let tests = isBlankMovement (v .movement) ∷ eqb (v .sender) 0 ∷ eqb (v .form) 0 ∷ eqb (v .heading) 0 ∷ not (v .met) ∷ eqb (v .class) 0 ∷ [] in
+    let e = each-holds tests h in
+    search (blank-movement, eqb-true, not-true) depth 12
 
 -- ---- form numbers
 

@@ -13,7 +13,8 @@ returns-2 : tie.Need-returns-2
 unfolding listingAt
 returns-2 c =
     let keep = c .before .before in
-    let filled = keep .before .before .before .before .before .before in
+    let wrote = keep .before .before .before in
+    let filled = wrote .before .before .before in
     let listed = filled .before .before in
     let section = listed .before .before .before in
     fills (section .before .before .if1 .left) (rw (listed .listed-at .ensures, section .section-words .ensures) at (filled .fill-words .ensures)) (keep .keep .ensures)

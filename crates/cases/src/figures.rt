@@ -99,12 +99,11 @@ fn clears_in(figures: &[u8], at: usize) -> Clears
     }
 }
 
-// The thirteen bytes of a desk; a figure that they do not give is as fresh.
-fn desk_in(figures: &[u8], at: usize) -> Desk
+// The thirteen bytes of a desk; a figure that they do not give is that of `other`.
+fn desk_in(figures: &[u8], at: usize, other: Desk) -> Desk
     requires { ⌜ at + 13 ≤ length (now figures) ⌝ }
-    ensures { λ r. ⌜ r ≡ deskAt (now (figures .entry)) at ⌝ }
+    ensures { λ r. ⌜ r ≡ deskAt (now (figures .entry)) at other ⌝ }
 {
-    let fresh = Desk::fresh();
     Desk {
         clock: number_at(figures, at),
         last: number_at(figures, at + 2),
@@ -113,7 +112,7 @@ fn desk_in(figures: &[u8], at: usize) -> Desk
         out: figures[at + 8] == 1,
         guest: figures[at + 9],
         clears: clears_in(figures, at + 10),
-        ..fresh
+        ..other
     }
 }
 
@@ -137,8 +136,8 @@ pub(crate) fn section_in(figures: &[u8]) -> Section
         len: figures[PRESENT] as usize,
         force: figures[FORCE] == 1,
         refused: refused_in(figures),
-        a: desk_in(figures, DESK_A),
-        b: desk_in(figures, DESK_B),
+        a: desk_in(figures, DESK_A, Desk::fresh()),
+        b: desk_in(figures, DESK_B, Desk::fresh()),
     }
 }
 

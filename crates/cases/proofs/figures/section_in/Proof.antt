@@ -20,6 +20,12 @@ shared-slice-read-t7 c = search needs
 refused-in-requires : tie.Need-refused-in-requires
 refused-in-requires c κs = search needs
 
+fresh-requires : tie.Need-fresh-requires
+fresh-requires c κs = search needs
+
+fresh-requires-2 : tie.Need-fresh-requires-2
+fresh-requires-2 c κs = search needs
+
 desk-in-requires : tie.Need-desk-in-requires
 desk-in-requires c κs = search needs
 
@@ -38,6 +44,8 @@ section-in-spec =
     cast-t5
     shared-slice-read-t7
     refused-in-requires
+    fresh-requires
     desk-in-requires
+    fresh-requires-2
     desk-in-requires-2
     returns)

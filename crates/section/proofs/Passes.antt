@@ -5,7 +5,7 @@ use Prim.Native.Nat.{_-_, _<_, _≤_, min, suc, ℕ}
 use lib.ListN.{drop, drop-of-length-le, getD, length, take}
 use lib.Seq.{drop-cons, getD-take, length-take-le, take-all}
 use mathlib.Core.List.{List, [], _∷_}
-use mathlib.Core.Path.{_∙_, _≡_, ap, sym}
+use mathlib.Core.Path.{_∙_, _≡_, ap, subst, sym}
 use native.Mathlib.Decide.{decLe}
 use native.Mathlib.Omega.{arith}
 
@@ -32,6 +32,15 @@ module _ {T R : Type 0} (of : List T → R) (l : List T) (from n : ℕ) (fits : 
 
   pub ends : {i : ℕ} {told : R} → Pass of l from n i told → i ≤ from → told ≡ of (drop from (take n l))
   ends {i} p most = let done : i ≡ from = omega arith in rw done at (p .says)
+
+-- ---- a pass up, from A's end to B's: at place i, of n, it has shown what holds of those passed
+
+pub record Up (n i : ℕ) (shows : ℕ → Type 0) : Type 0 where
+  pub within : i ≤ n
+  pub so-far : shows i
+
+pub at-end : {n i : ℕ} {shows : ℕ → Type 0} → Up n i shows → n ≤ i → shows n
+at-end {n} {i} {shows} up past = let done : i ≡ n = omega arith in subst shows done (up .so-far)
 
 -- a length beyond the last place is as good as the number of places
 pub take-present : {A : Type 0} (l : List A) (n k : ℕ) → length l ≡ k → take (min n k) l ≡ take n l

@@ -1,4 +1,4 @@
--- A vehicle enters or leaves at a station's end, or has met another: the words stored are those of the line after it.
+-- A vehicle enters or leaves at a station's end, or has met another: the words stored are those of the vehicles after it.
 -- Assumes nothing.
 use Prim.Native.Nat.{_%_, _*_, _+_, _-_, _<_, _≤_, ℕ}
 use Rattle.words.proofs.Becoming.{becomes-as, vehicles-then}
@@ -47,9 +47,9 @@ start-less A w m = omega arith
 start-less B w m = omega arith
 
 -- what is stored at an end
-end-stored : (x : Station) (m : ℕ) (w : List ℕ) {n slot there : ℕ} {moved after : List ℕ} {v : Vehicle}
-    → StartMoved (set w 0 n) moved x m slot there → VehiclePut moved after slot v → Stored w after slot v n (startOn x (startIn w) m)
-end-stored x m w {n} {slot} {there} {moved} {after} {v} start put = record {
+end-stored : (x : Station) (m : ℕ) (w : List ℕ) {n slot first : ℕ} {moved after : List ℕ} {v : Vehicle}
+    → StartMoved (set w 0 n) moved x m first → VehiclePut moved after slot v → Stored w after slot v n (startOn x (startIn w) m)
+end-stored x m w {n} {slot} {first} {moved} {after} {v} start put = record {
   first = firstWord v;
   second = secondWord v;
   word = startWord x m (set w 0 n);
@@ -64,33 +64,33 @@ end-stored x m w {n} {slot} {there} {moved} {after} {v} start put = record {
 
 -- ---- the acts
 
--- the line of the section is that in the words
+-- the vehicles of the section are those in the words
 as-vehicles : (w : List ℕ) {after : List ℕ} (f : List Vehicle → List Vehicle) (start : ℕ → ℕ)
     → Becomes w after (withVehicles (sectionIn w) (f (vehiclesIn w))) (start (startIn w)) → VehiclesBecome w after f start
 as-vehicles w f start b = becomes-as b (ap (λ l. withVehicles (sectionIn w) (f l)) (sym (vehicles-of w))) refl
 
-pub insert-becomes : (x : Station) (v : Vehicle) (w : List ℕ) {n slot : ℕ} {moved after : List ℕ} → n ≡ length (vehiclesOf (sectionIn w))
-    → StartMoved (set w 0 (n + 1)) moved x oneBack slot (endSlot x (startOn x (startIn (set w 0 (n + 1))) oneBack) n) → VehiclePut moved after slot v
+pub insert-becomes : (x : Station) (v : Vehicle) (w : List ℕ) {n slot first : ℕ} {moved after : List ℕ} → n ≡ length (vehiclesOf (sectionIn w))
+    → StartMoved (set w 0 (n + 1)) moved x oneBack first → (slot ≡ endSlot x first n) × (slot < slots) → VehiclePut moved after slot v
     → VehiclesBecome w after (insertAt x v) (λ start. startOn x start oneBack)
-insert-becomes x v w {n} {slot} size start put =
+insert-becomes x v w {n} {slot} size start end put =
     let l = vehiclesIn w in
     let here : endSlot x (startOn x (startIn w) oneBack) (length l) ≡ slot =
-    sym (start .at ∙ ap₂ (λ k i. endSlot x (startOn x k oneBack) i) (start-kept w (n + 1)) (size ∙ ap length (vehicles-of w))) in
+    sym (end .0 ∙ ap₂ (endSlot x) (start .at ∙ ap (λ k. startOn x k oneBack) (start-kept w (n + 1))) (size ∙ ap length (vehicles-of w))) in
     let moves = subst (λ i. Moves (startIn w) l i v (startOn x (startIn w) oneBack) (insertAt x v l)) here (enters-moves (startIn w) l (omega arith) (vehicles-fit w) x v) in
     let count : n + 1 ≡ length (insertAt x v l) = omega (arith, insert-length x v l, ap length (vehicles-of w)) in
     as-vehicles w (insertAt x v) (λ k. startOn x k oneBack)
-    (vehicles-become slot v (startOn x (startIn w) oneBack) (insertAt x v l) (start .inside) (start-less x w oneBack) w (end-stored x oneBack w start put) count moves)
+    (vehicles-become slot v (startOn x (startIn w) oneBack) (insertAt x v l) (end .1) (start-less x w oneBack) w (end-stored x oneBack w start put) count moves)
 
-pub remove-becomes : (x : Station) (w : List ℕ) {n slot : ℕ} {moved after : List ℕ} → n ≡ length (vehiclesOf (sectionIn w)) - 1
-    → StartMoved (set w 0 n) moved x 1 slot (endSlot x (startIn (set w 0 n)) n) → VehiclePut moved after slot unused
+pub remove-becomes : (x : Station) (w : List ℕ) {n slot next : ℕ} {moved after : List ℕ} → n ≡ length (vehiclesOf (sectionIn w)) - 1
+    → StartMoved (set w 0 n) moved x 1 next → (slot ≡ endSlot x (startIn (set w 0 n)) n) × (slot < slots) → VehiclePut moved after slot unused
     → VehiclesBecome w after (removeAt x) (λ start. startOn x start 1)
-remove-becomes x w {n} {slot} size start put =
+remove-becomes x w {n} {slot} size start end put =
     let l = vehiclesIn w in
     let count : n ≡ length l - 1 = omega (arith, ap length (vehicles-of w)) in
-    let here : endSlot x (startIn w) (length l - 1) ≡ slot = sym (start .at ∙ ap₂ (endSlot x) (start-kept w n) count) in
+    let here : endSlot x (startIn w) (length l - 1) ≡ slot = sym (end .0 ∙ ap₂ (endSlot x) (start-kept w n) count) in
     let moves = subst (λ i. Moves (startIn w) l i unused (startOn x (startIn w) 1) (removeAt x l)) here (leaves-moves (startIn w) l (omega arith) (vehicles-fit w) x) in
     as-vehicles w (removeAt x) (λ k. startOn x k 1)
-    (vehicles-become slot unused (startOn x (startIn w) 1) (removeAt x l) (start .inside) (start-less x w 1) w (end-stored x 1 w start put) (omega (arith, remove-length x l)) moves)
+    (vehicles-become slot unused (startOn x (startIn w) 1) (removeAt x l) (end .1) (start-less x w 1) w (end-stored x 1 w start put) (omega (arith, remove-length x l)) moves)
 
 -- ---- one has met another: its first word alone is stored
 
@@ -153,7 +153,7 @@ module _ (x : Station) (i : ℕ) (w : List ℕ) {n slot : ℕ} (size : n ≡ len
         (rw at (meets-moves (startIn w) l (omega arith) (vehicles-fit w) x i (omega (arith, ap length (vehicles-of w))))) in
         as-vehicles w (redirectAt x i) (λ k. k) (vehicles-become slot v (startIn w) (redirectAt x i l) (omega arith) (omega arith) w met-stored count moves)
 
--- ---- and then the other: the line is as long as before
+-- ---- and then the other: as many are present as before
 
 module _ (x : Station) (i : ℕ) {w u : List ℕ} (one : VehiclesBecome w u (redirectAt x i) (λ start. start)) where
   met-fits : length (redirectAt x i (vehiclesOf (sectionIn w))) ≤ 24

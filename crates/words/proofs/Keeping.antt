@@ -1,4 +1,4 @@
--- A section put into words: the words of an empty one, then each vehicle of the line entered at B's end, then the desks; at each step they are the own words of
+-- A section put into words: the words of an empty one, then each vehicle present entered at B's end, then the desks; at each step they are the own words of
 -- the section so far. And the places read off them, one after another.
 -- Assumes nothing.
 use Prim.Native.Nat.{_+_, _<_, _≤_, suc, zero, ℕ}
@@ -26,7 +26,7 @@ pub own-emptied : (force : Bool) (count : ℕ) → count < 4294967296 → OwnWor
 unfolding sectionIn wordsOf slotWords bySlot padTo
 own-emptied force count fits = record { section = rw (one-back force, mod-eq-of-lt fits); start = refl; words = refl; fits = omega arith }
 
--- one more vehicle of a line
+-- one more vehicle
 pub own-next : {w after : List ℕ} (s : Section) (places : List Vehicle) (i : ℕ) → OwnWords w (withVehicles s (take i places)) → i < 24 → length places ≡ 24
     → VehiclesBecome w after (insertAt B (getD places i unused)) (λ start. startOn B start oneBack) → OwnWords after (withVehicles s (take (i + 1) places))
 own-next {w} {after} s places i own less long b =

@@ -1,4 +1,4 @@
--- A line of vehicles in a ring of slots: place i stands in slot (start + i) % 32. With one slot altered the ring holds the line after an act at either end,
+-- Vehicles in a ring of slots: place i stands in slot (start + i) % 32. With one slot altered the ring holds those after an act at either end,
 -- and, where every other slot was unused, still nothing else: one law of each act serves both, with the number m of places that are known.
 -- Assumes nothing.
 use Prim.Native.Nat.{_%_, _+_, _-_, _<_, _≤_, min, suc, zero, ℕ}
@@ -33,11 +33,6 @@ module _ (at : ℕ → Vehicle) where
   -- the first m places from a slot on are those of l
   abbrev pub Stands : ℕ → List Vehicle → ℕ → Type 0
   Stands start l m = (i : ℕ) → i < m → at ((start + i) % slots) ≡ getD l i unused
-
-  pub round-is : (i : ℕ) (l : List Vehicle) → Stands i l (length l) → round at i (length l) ≡ l
-  round-is i l h =
-      ext-getD unused (round at i (length l)) l (round-length i (length l))
-      (λ k less. let fits : k < length l = omega (arith, round-length i (length l)) in round-at i (length l) k fits ∙ h k fits)
 
 -- ---- one slot is altered
 
@@ -96,27 +91,27 @@ module _ {at after : ℕ → Vehicle} (start : ℕ) (l : List Vehicle) (less : s
       by (yes e) = a .here _ (omega arith) ∙ sym (ap (λ k. getD (set l j (redirected x (getD l j unused))) k unused) e ∙ getD-set-same l j _ unused inside)
       by (no ne) = a .elsewhere _ (λ e. ne (omega arith)) ∙ stands i (omega arith) ∙ sym (getD-set-other l j i _ unused ne)
 
--- ---- an act on the line: with v put into a slot, the ring from one start on holds the line after it, and nothing else if it held nothing else before
+-- ---- an act on the vehicles: with v put into a slot, the ring from one start on holds those after it, and nothing else if it held nothing else before
 
 pub record Moves (start : ℕ) (l : List Vehicle) (slot : ℕ) (v : Vehicle) (start′ : ℕ) (l′ : List Vehicle) : Type 0 where
-  pub line : {at after : ℕ → Vehicle} → Alters at after slot v → Stands at start l (length l) → Stands after start′ l′ (min (length l′) 24)
+  pub present : {at after : ℕ → Vehicle} → Alters at after slot v → Stands at start l (length l) → Stands after start′ l′ (min (length l′) 24)
   pub alone : length l′ ≤ 24 → {at after : ℕ → Vehicle} → Alters at after slot v → Stands at start l slots → Stands after start′ l′ slots
 
 module _ (start : ℕ) (l : List Vehicle) (less : start < slots) (fits : length l ≤ 24) (x : Station) where
   pub enters-moves : (v : Vehicle) → Moves start l (endSlot x (startOn x start oneBack) (length l)) v (startOn x start oneBack) (insertAt x v l)
   enters-moves v = record {
-    line = λ a st. enters start l less fits (length l) _ (omega arith) st x v a (omega (arith, insert-length x v l)) (λ i h ne. omega (arith, insert-length x v l));
+    present = λ a st. enters start l less fits (length l) _ (omega arith) st x v a (omega (arith, insert-length x v l)) (λ i h ne. omega (arith, insert-length x v l));
     alone = λ few a st. enters start l less fits slots slots (omega arith) st x v a (omega arith) (λ i h ne. omega arith);
   }
 
   pub leaves-moves : Moves start l (endSlot x start (length l - 1)) unused (startOn x start 1) (removeAt x l)
   leaves-moves = record {
-    line = λ a st. leaves start l less fits (length l) _ (omega arith) st x a (λ i h ne. omega (arith, remove-length x l)) (λ i h ne. omega (arith, remove-length x l));
+    present = λ a st. leaves start l less fits (length l) _ (omega arith) st x a (λ i h ne. omega (arith, remove-length x l)) (λ i h ne. omega (arith, remove-length x l));
     alone = λ few a st. leaves start l less fits slots slots (omega arith) st x a (λ i h ne. omega arith) (λ i h ne. omega arith);
   }
 
   pub meets-moves : (j : ℕ) → j < length l → Moves start l ((start + j) % slots) (redirected x (getD l j unused)) start (redirectAt x j l)
   meets-moves j inside = record {
-    line = λ a st. meets start l less fits (length l) _ (omega arith) st x j inside (omega (arith, redirect-length x j l)) a;
+    present = λ a st. meets start l less fits (length l) _ (omega arith) st x j inside (omega (arith, redirect-length x j l)) a;
     alone = λ few a st. meets start l less fits slots slots (omega arith) st x j inside (omega arith) a;
   }

@@ -1,4 +1,4 @@
--- The line in words: what is stored in a slot, with the line's length and the ring's start, makes the words stand for the section with the line after it;
+-- The vehicles in words: what is stored in a slot, with their number and the ring's start, makes the words stand for the section with those after it;
 -- and a section's own words become the words of that section.
 -- Assumes nothing.
 use Prim.Native.Nat.{_%_, _*_, _+_, _-_, _<_, _≤_, min, suc, zero, ℕ}
@@ -26,7 +26,7 @@ use mathlib.Core.Path.{_∙_, _≡_, ap, ap₂, refl, sym}
 use native.Mathlib.Decide.{decLe}
 use native.Mathlib.Omega.{arith}
 
--- ---- the line
+-- ---- the vehicles present
 
 pub vehicles-length : (w : List ℕ) → length (vehiclesIn w) ≡ presentIn w
 vehicles-length w = round-length (vehicleAt (ringIn w)) (startIn w) (presentIn w)
@@ -47,7 +47,7 @@ pub places-of : (w : List ℕ) → padTo 24 (vehiclesOf (sectionIn w)) ≡ secti
 unfolding sectionIn
 places-of w = ap (padTo 24) (vehicles-of w)
 
--- of the places of a line, one that is read, and any one if the line is not longer than they
+-- of the places with vehicles in them, one that is read, and any one if the vehicles are no more than they
 pad-at : (n : ℕ) (l : List Vehicle) (i : ℕ) → i < n → getD (padTo n l) i unused ≡ getD l i unused
 unfolding padTo
 pad-at zero l i h = absurd (omega arith)
@@ -96,7 +96,7 @@ find-on sender form l i {named} h e =
     let next : suc i ≡ i + 1 = omega arith in
     ap (findOf sender form) (drop-cons l i unused h) ∙ rw (e, ← next)
 
--- two that may meet are both in the line
+-- two that may meet are both present
 pub may-meet-in : (l : List Vehicle) (i : ℕ) → mayMeet l i ≡ true → i + 1 < length l
 may-meet-in l i e = ltb-true (i + 1) (length l) (each-holds (meetingTests l i) e .0)
 
@@ -118,7 +118,7 @@ slot-past p r slot first second e =
     ∙ ap (λ t. set t (length p + (2 * slot + 1)) second) (set-past p r (2 * slot) first)
     ∙ set-past p (set r (2 * slot) first) (2 * slot + 1) second
 
--- A vehicle's words, the line's length n and the word of the ring's start. In own words they are those that the definition names.
+-- A vehicle's words, the number n of vehicles and the word of the ring's start. In own words they are those that the definition names.
 pub record Stored (w after : List ℕ) (slot : ℕ) (v : Vehicle) (n start : ℕ) : Type 0 where
   pub first : ℕ
   pub second : ℕ
@@ -132,7 +132,7 @@ pub record Stored (w after : List ℕ) (slot : ℕ) (v : Vehicle) (n start : ℕ
   pub own-word : Own w → word ≡ start
 
 module _ (slot : ℕ) (v : Vehicle) (start : ℕ) (l : List Vehicle) (inside : slot < slots) (less : start < slots) where
-  -- in a section's own words: `before` is its line, from slot a on
+  -- in a section's own words: `before` are its vehicles, from slot a on
   module _ (s : Section) (a : ℕ) (before : List Vehicle) (from : a < slots) (fits : length before ≤ 24) (places : s .vehicles ≡ padTo 24 before)
       (moves : Moves a before slot v start l) (few : length l ≤ 24) where
     slots-stand : Stands (λ k. getD (bySlot (s .vehicles) a) k unused) a before slots
@@ -170,7 +170,7 @@ module _ (slot : ℕ) (v : Vehicle) (start : ℕ) (l : List Vehicle) (inside : s
       let shown : after ≡ figures ++ inRing (ringIn w) slot first second =
       r .stored ∙ ap (λ u. inSlot (set (set u 0 n) 3 word) slot first second) (as-written w (r .long)) ∙ slot-past figures (ringIn w) slot first second refl in
       let altered = slot-altered (ringIn w) slot first second (omega (arith, length-drop ringFrom w, r .long)) (r .vehicle) in
-      let stands = moves .line altered (vehicles-stand w) in
+      let stands = moves .present altered (vehicles-stand w) in
       let places : padTo 24 (round (vehicleAt (inRing (ringIn w) slot first second)) start (min n 24)) ≡ padTo 24 l =
       round-pads _ start l (ap (λ k. min k 24) size) (λ i h. stands i (omega arith)) in
       record {

@@ -20,14 +20,7 @@ pub words-count : (i n : ℕ) (w : List ℕ) → length (wordsFrom i n w) ≡ n
 words-count i zero w = refl
 words-count i (suc n) w = ap suc (words-count (i + 1) n w)
 
--- a word of some, read and stored
-pub word-from : (i n : ℕ) (w : List ℕ) (k : ℕ) → k < n → getD (wordsFrom i n w) k 0 ≡ getD w (i + k) 0
-word-from i zero w k h = absurd (omega arith)
-word-from i (suc n) w zero h = sym (ap (λ j. getD w j 0) (add-zero i))
-word-from i (suc n) w (suc k) h =
-    let same : i + 1 + k ≡ i + suc k = omega arith in
-    word-from (i + 1) n w k (omega arith) ∙ ap (λ j. getD w j 0) same
-
+-- a word of some, stored
 taken : (i n : ℕ) (w : List ℕ) → i + n ≤ length w → wordsFrom i n w ≡ take n (drop i w)
 taken i n w long = sym (ap (take n) (first-words i n w long) ∙ take-at (wordsFrom i n w) (drop (i + n) w) n (words-count i n w))
 

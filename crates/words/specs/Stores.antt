@@ -1,6 +1,6 @@
 -- What a store within this crate alters, as its functions tell one another.
 use Prim.Native.Nat.{_%_, _*_, _+_, _<_, ℕ}
-use Rattle.words.specs.Words.{deskFrom, deskWordsIn, firstWord, ringFrom, secondWord, slots, startIn, vehicleIn, wordCount}
+use Rattle.words.specs.Words.{deskFrom, deskWordsIn, firstWord, ringFrom, secondWord, slots, startIn, startOn, vehicleIn, wordCount}
 use Rattle.working.specs.WellMade.{deskLength}
 use Rattle.working.specs.declared.Station.the-variants.{A, B}
 use Rattle.working.specs.declared.Station.{Station}
@@ -36,8 +36,8 @@ abbrev pub endSlot : Station → ℕ → ℕ → ℕ
 endSlot A start others = start
 endSlot B start others = (start + others) % slots
 
--- the ring's start is moved, and a slot is the one at a station's end
-pub record StartMoved (before after : List ℕ) (x : Station) (n slot there : ℕ) : Type 0 where
+-- the ring's start is moved n slots on at A's end, and is now at a slot
+pub record StartMoved (before after : List ℕ) (x : Station) (n start : ℕ) : Type 0 where
   pub stored : after ≡ set before 3 (startWord x n before)
-  pub at : slot ≡ there
-  pub inside : slot < slots
+  pub at : start ≡ startOn x (startIn before) n
+  pub inside : start < slots

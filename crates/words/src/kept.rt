@@ -26,7 +26,7 @@ pub fn fresh_words() -> Words
 }
 
 // The words of a section with the first `len` of its places, and both desks as fresh.
-fn line_words(force: bool, count: u32, places: [Vehicle; Section::PLACES], len: usize) -> Words
+fn present_words(force: bool, count: u32, places: [Vehicle; Section::PLACES], len: usize) -> Words
     ensures { λ r. ⌜ OwnWords r (withVehicles (emptied force count) (take len places)) ⌝ }
 {
     let present = fitting(len);
@@ -46,7 +46,7 @@ pub fn words_of(s: Section) -> Words
     let places = s.vehicles;
     let a = s.a;
     let b = s.b;
-    let mut words = line_words(s.force, s.refused, places, s.len);
+    let mut words = present_words(s.force, s.refused, places, s.len);
     put_desk(&mut words, Station::A, a);
     put_desk(&mut words, Station::B, b);
     words

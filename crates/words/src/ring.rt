@@ -104,20 +104,31 @@ fn put_vehicle(words: &mut Words, slot: usize, v: Vehicle)
     words[RING + (first + 1)] = second_word(movement);
 }
 
-// The slot for a vehicle that enters at a station's end: at A's end the ring's start moves there.
-fn entering_slot(words: &mut Words, at: Station, present: usize) -> usize
-    requires { ⌜ present < slots ⌝ }
-    ensures { λ r. ⌜ StartMoved (now (words .entry)) (now (words .exit)) at oneBack r (endSlot at (startOn at (startIn (now (words .entry))) oneBack) present) ⌝ }
+// The ring's start moves so many slots on at A's end, and stays at B's; the start after it.
+fn move_start(words: &mut Words, at: Station, on: usize) -> usize
+    requires { ⌜ on < slots ⌝ }
+    ensures { λ r. ⌜ StartMoved (now (words .entry)) (now (words .exit)) at on r ⌝ }
 {
     let _ = &words[..];
     let start = start_in(words);
     match at {
         Station::A => {
-            let slot = slot_of(start, ONE_BACK);
-            words[START] = slot as u64;
-            slot
+            let next = slot_of(start, on);
+            words[START] = next as u64;
+            next
         }
-        Station::B => slot_of(start, present),
+        Station::B => start,
+    }
+}
+
+// The slot at a station's end, from a start on, with so many others in the ring.
+fn end_slot(at: Station, start: usize, others: usize) -> usize
+    requires { ⌜ (start < slots) × (others < slots) ⌝ }
+    ensures { λ r. ⌜ (r ≡ endSlot at start others) × (r < slots) ⌝ }
+{
+    match at {
+        Station::A => start,
+        Station::B => slot_of(start, others),
     }
 }
 
@@ -127,24 +138,8 @@ pub fn insert(words: &mut Words, at: Station, v: Vehicle)
 {
     let present = present_in(words);
     words[LEN] = (present + 1) as u64;
-    let slot = entering_slot(words, at, present);
-    put_vehicle(words, slot, v);
-}
-
-// The slot of the vehicle that leaves at a station's end: at A's end the ring's start moves to the next one.
-fn leaving_slot(words: &mut Words, at: Station, others: usize) -> usize
-    requires { ⌜ others < slots ⌝ }
-    ensures { λ r. ⌜ StartMoved (now (words .entry)) (now (words .exit)) at 1 r (endSlot at (startIn (now (words .entry))) others) ⌝ }
-{
-    let _ = &words[..];
-    let start = start_in(words);
-    match at {
-        Station::A => {
-            words[START] = slot_of(start, 1) as u64;
-            start
-        }
-        Station::B => slot_of(start, others),
-    }
+    let start = move_start(words, at, ONE_BACK);
+    put_vehicle(words, end_slot(at, start, present), v);
 }
 
 // One less, and not below 0.
@@ -160,8 +155,9 @@ pub fn remove(words: &mut Words, at: Station)
 {
     let others = fewer(present_in(words));
     words[LEN] = others as u64;
-    let slot = leaving_slot(words, at, others);
-    put_vehicle(words, slot, Vehicle::unused());
+    let start = start_in(words);
+    move_start(words, at, 1);
+    put_vehicle(words, end_slot(at, start, others), Vehicle::unused());
 }
 
 // The vehicle nearest a station, or the unused place where there is none.

@@ -75,7 +75,7 @@ fated s x time act p g (departs {p = q} f leaves) =
 fated s x time act p g (arrives y n is f named may) =
     let k = nearest x (vehiclesOf s) (named-there y n x (vehiclesOf s) named) in
     let enters : mayEnter x (k .vehicle) ≡ true = rw (k .near) at may in
-    let before = rw (k .line) at (well-at s x g) in
+    let before = rw (k .whole) at (well-at s x g) in
     let after = well-arrive x (deskOf s x) (deskOf s (otherAt x)) time (k .vehicle) (k .others) before enters in
     rw (is, k .near, k .rest) (arrival x time y n k f enters after)
 

@@ -125,7 +125,7 @@ Within (f ∷ fs) = In (f .0) (f .1) × Within fs
 abbrev pub Bounds : Desk → Type 0
 Bounds d = Within (drop 3 (deskFigures d))
 
--- the desk of station number n beside the line l
+-- the desk of station number n beside the vehicles l
 pub record DeskMade (n : ℕ) (d : Desk) (l : List Vehicle) : Type 0 where
   pub last : d .last ≤ 9999
   pub sent : d .sent ≤ 12

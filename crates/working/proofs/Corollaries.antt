@@ -137,5 +137,5 @@ train-owed {s = s} run x there from train =
     let v = k .vehicle in
     let far = otherAt x in
     let one : trainOne (v .movement) ≡ 1 = rw (rw (k .near) at train) in
-    let theirs = ap (movesOf far) (k .line) ∙ moves-far x v (k .others) (rw (k .near) at from) in
+    let theirs = ap (movesOf far) (k .whole) ∙ moves-far x v (k .others) (rw (k .near) at from) in
     omega (arith, kept-at x s (kept run .good) .own .sum, ap trains theirs, weigh-snoc trainOne (movesOf far (k .others)) (v .movement))

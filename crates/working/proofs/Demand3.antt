@@ -1,6 +1,6 @@
 -- Demand 3, whole: of every list of steps from a fresh section, in either form, whatever bytes the steps are given. The statement: specs/Demand3.antt.
 -- After each step the section is well made, the invariant holds, and every vehicle present has its departure in the list so far; the claims at the end follow
--- from these. Two neighbours change places because each reads and alters only its own desk and its own end of the line.
+-- from these. Two neighbours change places because each reads and alters only its own desk and its own end of the section.
 -- Assumes nothing.
 use Prim.Native.Nat.{_+_, _<_, ℕ}
 use Rattle.working.proofs.Changes.{change}

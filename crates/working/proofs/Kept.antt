@@ -77,9 +77,9 @@ kept-change s e r g (refusal k why) = g .kept
 kept-change s e r g (emptying k force) = kept-emptied
 kept-change s e r g (departure x time act {p} f leaves w) = kept-with s x (p .desk) (insertAt x (p .vehicle) (vehiclesOf s)) w (kept-depart s act x p g leaves)
 kept-change s e r g (arrival x time y n k f may w) =
-    let before = rw (k .line) at (well-at s x (g .sound)) in
+    let before = rw (k .whole) at (well-at s x (g .sound)) in
     kept-with s x (arriveDesk x (deskOf s x) time (k .vehicle)) (k .others) w
-    (kept-arrive x (deskOf s x) (deskOf s (otherAt x)) time (k .vehicle) (k .others) before (rw (k .line) at (kept-at x s g)) may)
+    (kept-arrive x (deskOf s x) (deskOf s (otherAt x)) time (k .vehicle) (k .others) before (rw (k .whole) at (kept-at x s g)) may)
 kept-change s e r g (meeting x y n i f w) =
     rw (vehicles-with 24 (metAt x i (vehiclesOf s)) (w .fits), met A, met B) (g .kept)
   where

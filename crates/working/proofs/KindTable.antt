@@ -35,8 +35,8 @@ backwards (v ∷ r) l = backwards r (v ∷ l)
 
 -- in force, four refused, this station's desk and the other's, and the vehicles from this station's end on
 abbrev seenFrom : Station → List Vehicle → Desk → Section
-seenFrom A line mine = working 4 line mine theirs
-seenFrom B line mine = working 4 (backwards line []) theirs mine
+seenFrom A present mine = working 4 present mine theirs
+seenFrom B present mine = working 4 (backwards present []) theirs mine
 
 -- a vehicle of this station, and one of the other, unmet
 abbrev own : Station → Movement → ℕ → ℕ → Vehicle
@@ -192,8 +192,8 @@ receipts x =
 -- ---- whoever declares, and a MEET
 
 -- A2 and A1, then B1: A1 and B1 are the pair; A1 is named
-abbrev line : Movement → ℕ → Bool → Movement → ℕ → Bool → List Vehicle
-line m to met n head redirected = vehicle Through 1 2 2 false 1 ∷ vehicle m 1 1 to met 1 ∷ vehicle n 2 1 head redirected 1 ∷ []
+abbrev present : Movement → ℕ → Bool → Movement → ℕ → Bool → List Vehicle
+present m to met n head redirected = vehicle Through 1 2 2 false 1 ∷ vehicle m 1 1 to met 1 ∷ vehicle n 2 1 head redirected 1 ∷ []
 
 abbrev meeting : List Vehicle → Section
 meeting l = working 4 l mine theirs
@@ -210,16 +210,16 @@ declared =
     -- MEET: 7; 22 unless the named one is present and heads to B, its neighbour towards B heads to A, and both are OPEN or THROUGH
     ∷ refused fresh (meet 1 1 1) NotInForce
     ∷ refused (meeting []) (meet 1 1 1) MayNotMeet
-    ∷ refused (meeting (line Through 2 false Through 1 false)) (meet 1 1 3) MayNotMeet
-    ∷ refused (meeting (line Through 2 false Through 1 false)) (meet 1 1 2) MayNotMeet
-    ∷ refused (meeting (line Through 2 false Through 1 false)) (meet 1 2 1) MayNotMeet
-    ∷ refused (meeting (line Through 1 true Through 1 false)) (meet 1 1 1) MayNotMeet
-    ∷ refused (meeting (line Through 2 false Through 2 true)) (meet 1 1 1) MayNotMeet
+    ∷ refused (meeting (present Through 2 false Through 1 false)) (meet 1 1 3) MayNotMeet
+    ∷ refused (meeting (present Through 2 false Through 1 false)) (meet 1 1 2) MayNotMeet
+    ∷ refused (meeting (present Through 2 false Through 1 false)) (meet 1 2 1) MayNotMeet
+    ∷ refused (meeting (present Through 1 true Through 1 false)) (meet 1 1 1) MayNotMeet
+    ∷ refused (meeting (present Through 2 false Through 2 true)) (meet 1 1 1) MayNotMeet
     ∷ refused (meeting (vehicle (Train 0 0) 1 1 2 false 0 ∷ vehicle Through 2 1 1 false 1 ∷ [])) (meet 1 1 1) MayNotMeet
     ∷ refused (meeting (vehicle Through 1 1 2 false 1 ∷ vehicle (Train 0 0) 2 1 1 false 0 ∷ [])) (meet 1 1 1) MayNotMeet
     -- both then head to the station given and are met; no clock moves, and the third stays as it is
-    ∷ row (meeting (line (Open 8) 2 false Through 1 false)) (meet 1 1 1) plain (meeting (line (Open 8) 1 true Through 1 true))
-    ∷ row (meeting (line Through 2 true (Open 8) 1 true)) (meet 2 1 1) plain (meeting (line Through 2 true (Open 8) 2 true))
+    ∷ row (meeting (present (Open 8) 2 false Through 1 false)) (meet 1 1 1) plain (meeting (present (Open 8) 1 true Through 1 true))
+    ∷ row (meeting (present Through 2 true (Open 8) 1 true)) (meet 2 1 1) plain (meeting (present Through 2 true (Open 8) 2 true))
     -- two of one sender may meet, once one of them has redirected
     ∷ row (meeting (vehicle Through 1 2 2 false 1 ∷ vehicle Through 1 1 1 true 1 ∷ [])) (meet 2 1 2) plain
     (meeting (vehicle Through 1 2 2 true 1 ∷ vehicle Through 1 1 2 true 1 ∷ []))

@@ -91,7 +91,7 @@ withOwes n d = withClears (record { asked = d .clears .asked; holds = d .clears 
 -- ---- a section in force: so many refused, these vehicles from A to B, these desks
 
 abbrev pub working : ℕ → List Vehicle → Desk → Desk → Section
-working refused line a b = record { vehicles = padTo 24 line; len = length line; force = true; refused = refused; a = a; b = b }
+working refused present a b = record { vehicles = padTo 24 present; len = length present; force = true; refused = refused; a = a; b = b }
 
 -- ---- every figure of a section in one row of numbers, so that two sections can be compared by computation
 

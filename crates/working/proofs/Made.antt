@@ -1,5 +1,5 @@
 -- Well made, seen from station x: its desk d, the other's o, the vehicles l. A vehicle that leaves x with the next form number, and one that is taken at x, keep it so.
--- Each clause is a law of the line; there is room for a twenty-fifth vehicle nowhere, since each station has sent at most twelve.
+-- Each clause is a law of the vehicles present; there is room for a twenty-fifth vehicle nowhere, since each station has sent at most twelve.
 -- Assumes nothing.
 use Prim.Native.Nat.{_+_, _-_, _<_, _≤_, suc, zero, ℕ}
 use Rattle.working.proofs.Clauses.{DeskMade, Numbered, Shape, desk-of, section-made, section-tests}
@@ -197,8 +197,8 @@ pub made-of : (s : Section) (x : Station) (e : Desk) (l : List Vehicle) → s .f
     → wellMade (withDesk (withVehicles s l) x e) ≡ true
 made-of s x e l f w = by x (w .own) (w .far)
   where
-    line : take (length l) (padTo 24 l) ≡ l
-    line = vehicles-with 24 l (w .fits)
+    present : take (length l) (padTo 24 l) ≡ l
+    present = vehicles-with 24 l (w .fits)
 
     made : (d o : Desk) → DeskMade 1 d l → DeskMade 2 o l
         → wellMade (record { vehicles = padTo 24 l; len = length l; force = s .force; refused = s .refused; a = d; b = o }) ≡ true
@@ -207,11 +207,11 @@ made-of s x e l f w = by x (w .own) (w .far)
         (record {
           fits = w .fits;
           blank = rest-blank 24 l;
-          shape = rw line (w .shape);
-          order = rw line (w .order);
-          distinct = rw line (w .distinct);
-          a = rw line own;
-          b = rw line far;
+          shape = rw present (w .shape);
+          order = rw present (w .order);
+          distinct = rw present (w .distinct);
+          a = rw present own;
+          b = rw present far;
           idle = rw f;
         })
 

@@ -33,8 +33,8 @@ used = figures 40 5 2 (Since 40) false 0 0 0 0
 
 -- in force, with these vehicles and this desk at station x; the other's desk is fresh
 abbrev inForce : Station → List Vehicle → Desk → Section
-inForce A line d = working 0 line d freshDesk
-inForce B line d = working 0 line freshDesk d
+inForce A present d = working 0 present d freshDesk
+inForce B present d = working 0 present freshDesk d
 
 -- not in force, with this desk at station x
 abbrev idle : Station → Desk → Section

@@ -1,5 +1,5 @@
 -- What each station's vehicles left on, nearest their sender first: the lists that the invariant is stated over.
--- The line is seen from a station: as it stands from A, the other way round from B. Only the laws of `seenFrom` split on the station.
+-- The vehicles are seen from a station: as they stand from A, the other way round from B. Only the laws of `seenFrom` split on the station.
 -- Assumes nothing.
 use Prim.Native.Nat.{_+_, _-_, _<_, suc, zero, ℕ}
 use Rattle.working.proofs.Every.{Every, every-add}
@@ -32,7 +32,7 @@ ownMoves n (v ∷ l) = cond (isFrom n v) (v .movement ∷ ownMoves n l) (ownMove
 abbrev pub movesOf : Station → List Vehicle → List Movement
 movesOf x l = ownMoves (numberAt x) (seenFrom x l)
 
--- ---- the line seen from a station
+-- ---- the vehicles seen from a station
 
 -- a vehicle that enters at x's end is the first from x, and the last from the other
 seen-own : (x : Station) (v : Vehicle) (l : List Vehicle) → seenFrom x (insertAt x v l) ≡ v ∷ seenFrom x l

@@ -1,5 +1,5 @@
 -- Two accepted entries of different stations, no MEET, the second not receiving what the first sent, change places: the same answers and the same section.
--- Each reads and alters its own desk and its own end of the line. They could meet only in a line of one vehicle: a departure into an empty line and its receipt
+-- Each reads and alters its own desk and its own end of the section. They could meet only with one vehicle in it: a departure into an empty section and its receipt
 -- at the other end, which is excluded, or two receipts of one vehicle, of which the second would be refused. It holds on every well-made section.
 -- Assumes nothing.
 use Prim.Native.Nat.{_+_, _<_, _≤_, ℕ}
@@ -56,7 +56,7 @@ module _ {x y : Station} (o : Opposite x y) where
 
   -- one enters at x
   inserted : (v : Vehicle) (l : List Vehicle) (k : Nearest y l) → insertAt x v l ≡ insertAt y (k .vehicle) (insertAt x v (k .others))
-  inserted v l k = ap (insertAt x v) (k .line) ∙ far-insert v (k .vehicle) (k .others)
+  inserted v l k = ap (insertAt x v) (k .whole) ∙ far-insert v (k .vehicle) (k .others)
 
   near-inserted : (v : Vehicle) (l : List Vehicle) → 0 < length l → nearestAt y (insertAt x v l) ≡ nearestAt y l
   near-inserted v l h = let k = nearest y l h in ap (nearestAt y) (inserted v l k) ∙ nearest-insert y (k .vehicle) (insertAt x v (k .others)) ∙ sym (k .near)
@@ -70,17 +70,17 @@ module _ {x y : Station} (o : Opposite x y) where
   near-removed : (l : List Vehicle) → 2 ≤ length l → nearestAt y (removeAt x l) ≡ nearestAt y l
   near-removed l h =
       let k = nearest x l (omega arith) in
-      ap (nearestAt y) (k .rest) ∙ sym (near-inserted (k .vehicle) (k .others) (omega (arith, k .size))) ∙ ap (nearestAt y) (sym (k .line))
+      ap (nearestAt y) (k .rest) ∙ sym (near-inserted (k .vehicle) (k .others) (omega (arith, k .size))) ∙ ap (nearestAt y) (sym (k .whole))
 
   removed-both : (l : List Vehicle) → 2 ≤ length l → removeAt y (removeAt x l) ≡ removeAt x (removeAt y l)
   removed-both l h =
       let k = nearest x l (omega arith) in
-      let far = ap (removeAt y) (k .line) ∙ remove-inserted (k .vehicle) (k .others) (omega (arith, k .size)) in
+      let far = ap (removeAt y) (k .whole) ∙ remove-inserted (k .vehicle) (k .others) (omega (arith, k .size)) in
       ap (removeAt y) (k .rest) ∙ sym (ap (removeAt x) far ∙ remove-insert x (k .vehicle) (removeAt y (k .others)))
 
 -- ---- a plan's effect at its station's end
 
--- how many it takes off the line
+-- how many it takes out of the section
 abbrev takes : Plan → ℕ
 takes (Refuse r) = 0
 takes (Depart p) = 0
@@ -156,7 +156,7 @@ takes-one (refuses r) ok receives = absurd (false≢true ok)
 takes-one (departs f k) ok receives = absurd (clash (ap isSome (k .kind)) receives)
 takes-one (arrives y n is f named may) ok receives = refl
 
--- into an empty line and out again at the other end: the second receives what the first sent
+-- into an empty section and out again at the other end: the second receives what the first sent
 one-there : (x y : Station) (v : Vehicle) → nearestAt y (insertAt x v []) ≡ v
 one-there A A v = refl
 one-there A B v = refl
@@ -175,7 +175,7 @@ just-sent x y z n v from named =
     let (sender, form) = both (eqb (v .sender) (numberAt z)) (eqb (v .form) n) (rw (one-there x y v) at named) in
     ap₂ acts.Receive (same-station x z (rw from at sender)) (sym (eqb-true (v .form) n form))
 
--- so two that are accepted find enough vehicles on the line l, whichever goes first
+-- so two that are accepted find enough vehicles l, whichever goes first
 enough : (l : List Vehicle) {x y : Station} {act bct : Act} {f : Bool} {d e : Desk} {t u : ℕ} {p q : Plan}
     → Fate act x f d t (nearestAt x l) p → Fate bct y f e u (nearestAt y (vehiclesBy x p l)) q → Accepts p → Accepts q
     → (ReceivesIt act x (answerBy p) bct → ⊥)

@@ -132,13 +132,13 @@ told-change h d s e r g (departure x time act {p} f leaves w) q a t =
     rw (vehicles-after s x (p .desk) (insertAt x (p .vehicle) (vehiclesOf s)) (w .fits)) (told-depart h d s g t x time act p leaves q a)
 told-change h d s e r g (arrival x time y n k f may w) q a t =
     rw (vehicles-after s x (arriveDesk x (deskOf s x) time (k .vehicle)) (k .others) (w .fits))
-    (none-more h d (rw q) (k .others) (every-end (Told h) x (k .vehicle) (k .others) (rw (k .line) at t) .0))
+    (none-more h d (rw q) (k .others) (every-end (Told h) x (k .vehicle) (k .others) (rw (k .whole) at t) .0))
 told-change h d s e r g (meeting x y n i f w) q a t =
     rw (vehicles-with 24 (metAt x i (vehiclesOf s)) (w .fits))
     (none-more h d (rw q) (metAt x i (vehiclesOf s))
     (every-turn (Told h) x (told-redirected h x) (suc i) (redirectAt x i (vehiclesOf s)) (every-turn (Told h) x (told-redirected h x) i (vehiclesOf s) t)))
 
--- ---- what the departures say of the line
+-- ---- what the departures say of the vehicles present
 
 pub trains-told : (h : List Done) (y : Station) (l : List Vehicle) → Every (Told h) l
     → sumOver (ofStation y (λ v. oneIf (leftOnTrain (departureOf h v)))) l ≡ trains (movesOf y l)

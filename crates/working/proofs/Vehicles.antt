@@ -1,4 +1,4 @@
--- The line and its two ends. Every law is stated of `insertAt x v l`, so that it serves both stations, a departure forwards and a receipt backwards.
+-- The vehicles present and their two ends. Every law is stated of `insertAt x v l`, so that it serves both stations, a departure forwards and a receipt backwards.
 -- By cases on the station, A at the front of the list and B at its back.
 -- Assumes nothing.
 use Prim.Native.Nat.{_+_, _-_, _<_, _≤_, suc, zero, ℕ}
@@ -61,7 +61,7 @@ pub insert-length : (x : Station) (v : Vehicle) (l : List Vehicle) → length (i
 insert-length A v l = refl
 insert-length B v l = omega (arith, length-append l (v ∷ []))
 
--- the last place of a line with one more at its end
+-- the last place of a list with one more at its end
 last-place : (l : List Vehicle) (v : Vehicle) → length (l ++ v ∷ []) - 1 ≡ length l
 last-place l v = omega (arith, length-append l (v ∷ []))
 
@@ -73,11 +73,11 @@ pub remove-insert : (x : Station) (v : Vehicle) (l : List Vehicle) → removeAt 
 remove-insert A v l = refl
 remove-insert B v l = rw (last-place l v) (take-append-seam l (v ∷ []))
 
--- a line with a vehicle, taken apart at a station's end
+-- vehicles, at least one, taken apart at a station's end
 pub record Nearest (x : Station) (l : List Vehicle) : Type 0 where
   pub vehicle : Vehicle
   pub others : List Vehicle
-  pub line : l ≡ insertAt x vehicle others
+  pub whole : l ≡ insertAt x vehicle others
   pub near : nearestAt x l ≡ vehicle
   pub rest : removeAt x l ≡ others
   pub size : length l ≡ suc (length others)
@@ -88,7 +88,7 @@ nearest x l h =
     record {
       vehicle = v;
       others = t;
-      line = is;
+      whole = is;
       near = ap (nearestAt x) is ∙ nearest-insert x v t;
       rest = ap (removeAt x) is ∙ remove-insert x v t;
       size = ap length is ∙ insert-length x v t;
@@ -107,7 +107,7 @@ pub remove-short : (x : Station) (l : List Vehicle) → length (removeAt x l) �
 remove-short A l = omega (arith, length-drop 1 l)
 remove-short B l = omega (arith, length-take (length l - 1) l)
 
--- ---- predicates on the line
+-- ---- predicates on the vehicles
 
 pub all-insert : (p : Vehicle → Bool) (x : Station) (v : Vehicle) (l : List Vehicle) → all p (insertAt x v l) ≡ (p v && all p l)
 all-insert p A v l = refl
@@ -179,7 +179,7 @@ ordered-far B v (u ∷ l) e h = by (ordered-far B v l e) (isFrom 1 u) refl
         let r : (isFrom 2 v && all (isFrom 2) l) ≡ true = rw (all-insert (isFrom 2) B v l) at (both (isFrom 2 u) (all (isFrom 2) (l ++ v ∷ [])) q .1) in
         absurd (clash (both (isFrom 2 v) (all (isFrom 2) l) r .0) e)
 
--- ---- a statement about every vehicle of a line
+-- ---- a statement about every vehicle present
 
 module _ (P : Vehicle → Type 0) where
   pub every-insert : (x : Station) (v : Vehicle) (l : List Vehicle) → P v → Every P l → Every P (insertAt x v l)

@@ -1,4 +1,4 @@
--- `kept::words_of` meets its contract: the line's words, with both desks.
+-- `kept::words_of` meets its contract: the words of the vehicles present, with both desks.
 -- Assumes nothing.
 use Rattle.words.proofs.Keeping.{own-desk}
 use Rattle.words.proofs.kept.words_of.Statement.{statement}
@@ -9,9 +9,9 @@ use borrow.Author.Needs.{needs}
 returns : tie.Need-returns
 returns c =
     let first = c .before .before in
-    let line = first .before .before in
-    let s = line .before .before .before .before .args .s in
-    own-desk B (s .b) (own-desk A (s .a) (line .line-words .ensures) (first .put-desk .ensures)) (c .put-desk2 .ensures)
+    let begun = first .before .before in
+    let s = begun .before .before .before .before .args .s in
+    own-desk B (s .b) (own-desk A (s .a) (begun .present-words .ensures) (first .put-desk .ensures)) (c .put-desk2 .ensures)
 
 pub words-of-spec : {M : Type 1} → statement M
 words-of-spec =

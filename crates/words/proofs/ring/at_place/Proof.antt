@@ -1,4 +1,4 @@
--- `line::at_place` meets its contract: place i stands in the slot i on from the start.
+-- `ring::at_place` meets its contract: place i stands in the slot i on from the start.
 -- Assumes nothing.
 use Prim.Native.Nat.{_%_, _+_}
 use Rattle.words.proofs.VehiclesIn.{vehicles-at, vehicles-of, present-length}

@@ -1,4 +1,4 @@
--- `line::emptied_words` meets its contract: every word but two is 0.
+-- `ring::emptied_words` meets its contract: every word but two is 0.
 -- Assumes nothing.
 use Rattle.words.proofs.Keeping.{own-emptied}
 use Rattle.words.proofs.ring.emptied_words.Statement.{statement}

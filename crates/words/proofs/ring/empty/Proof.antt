@@ -1,4 +1,4 @@
--- `line::empty` meets its contract: whatever the words were, they are now the empty section's own.
+-- `ring::empty` meets its contract: whatever the words were, they are now the empty section's own.
 -- Assumes nothing.
 use Rattle.words.proofs.ring.empty.Statement.{statement}
 use Rattle.words.proofs.ring.empty.Tie as tie

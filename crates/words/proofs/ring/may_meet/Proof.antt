@@ -1,4 +1,4 @@
--- `line::may_meet` meets its contract: off the line the first test fails, and on it the code joins the others in their order.
+-- `ring::may_meet` meets its contract: past the vehicles the first test fails, and among them the code joins the others in their order.
 -- Assumes nothing.
 use Prim.Native.Nat.{_+_, _<_}
 use Rattle.words.proofs.ring.may_meet.Statement.{statement}

@@ -1,4 +1,4 @@
--- `line::meet` meets its contract: two that may meet are both in the line; each has then met another, and else nothing is altered.
+-- `ring::meet` meets its contract: two that may meet are both present; each has then met another, and else nothing is altered.
 -- Assumes nothing.
 use Prim.Native.Nat.{_+_, _<_}
 use Rattle.words.proofs.Becoming.{becomes-as}
@@ -18,7 +18,7 @@ use native.Mathlib.Omega.{arith}
 abbrev found : tie.Then1 → tie.After-find
 found c = c .before .before .before
 
--- both are in the line
+-- both are present
 both-in : (c : tie.Then1) → found c .find .result + 1 < length (vehiclesOf (sectionIn (found c .before .before .args .words .now)))
 both-in c = may-meet-in (vehiclesOf (sectionIn (found c .before .before .args .words .now))) (found c .find .result) (sym (c .before .may-meet .ensures) ∙ c .if1 .taken)
 

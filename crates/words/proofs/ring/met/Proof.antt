@@ -1,4 +1,4 @@
--- `line::met` meets its contract: heading and met alone are altered.
+-- `ring::met` meets its contract: heading and met alone are altered.
 -- Assumes nothing.
 use Rattle.words.proofs.ring.met.Statement.{statement}
 use Rattle.words.proofs.ring.met.Tie as tie

@@ -1,4 +1,4 @@
--- `line::nearest` meets its contract: the first or the last of the line, if there is one.
+-- `ring::nearest` meets its contract: the first or the last vehicle, if there is one.
 -- Assumes nothing.
 use Prim.Native.Nat.{_-_}
 use Rattle.words.proofs.VehiclesIn.{near-none}

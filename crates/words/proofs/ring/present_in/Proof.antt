@@ -1,4 +1,4 @@
--- `line::present_in` meets its contract: no more vehicles are present than there are places.
+-- `ring::present_in` meets its contract: no more vehicles are present than there are places.
 -- Assumes nothing.
 use Rattle.words.proofs.VehiclesIn.{present-length}
 use Rattle.words.proofs.ring.present_in.Statement.{statement}

@@ -1,4 +1,4 @@
--- `line::put_met` meets its contract: the first word stored is that of the vehicle that has met another.
+-- `ring::put_met` meets its contract: the first word stored is that of the vehicle that has met another.
 -- Assumes nothing.
 use Prim.Native.Nat.{_%_, _*_, _+_}
 use Rattle.words.proofs.Ends.{met-becomes}

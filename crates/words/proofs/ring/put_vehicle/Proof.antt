@@ -1,4 +1,4 @@
--- `line::put_vehicle` meets its contract: the two words are the vehicle's, and each figure is in range of its type.
+-- `ring::put_vehicle` meets its contract: the two words are the vehicle's, and each figure is in range of its type.
 -- Assumes nothing.
 use Rattle.words.proofs.Packing.{vehicle-back}
 use Rattle.words.proofs.ring.put_vehicle.Statement.{statement}

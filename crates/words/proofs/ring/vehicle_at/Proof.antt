@@ -1,4 +1,4 @@
--- `line::vehicle_at` meets its contract: the ring lies behind the other words.
+-- `ring::vehicle_at` meets its contract: the ring lies behind the other words.
 -- Assumes nothing.
 use Prim.Native.Nat.{_*_, _+_}
 use Rattle.words.proofs.ring.vehicle_at.Statement.{statement}

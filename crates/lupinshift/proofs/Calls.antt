@@ -1,5 +1,6 @@
 -- The calls that fill a host's buffers come together to the listing, and one with room for a line gives nothing only at the end (the statements: specs/State.antt): what a call
--- leaves in the words stands for where its block ended, so the calls are the blocks of `step`. The section's words are its own from the start on. The last line and its figures are the listing's own (specs/Answers.antt).
+-- leaves in the words stands for where its block ended, so the calls are the blocks of `step`. The section's words are its own from the start on. The last line and its
+-- figures are the listing's own (specs/Answers.antt).
 -- Assumes nothing.
 use Prim.Native.Nat.{_+_, _≤_, ℕ}
 use Rattle.listing.specs.LineText.{endLine, longLine, longestLog}
@@ -28,7 +29,8 @@ enough : (words : List ℕ) → stateWords ≤ length words → ltb (length word
 enough words h = le-ltb (length words) stateWords h
 
 -- a call's text is that of a block, and the words after it stand for where the block ended
-call-text : {words log out words₁ out₁ : List ℕ} {r : ℕ} → stateWords ≤ length words → FillsOn words log out r words₁ out₁ → take r out₁ ≡ blockOf log (listingAt words) (length out) .text
+call-text : {words log out words₁ out₁ : List ℕ} {r : ℕ} → stateWords ≤ length words → FillsOn words log out r words₁ out₁
+    → take r out₁ ≡ blockOf log (listingAt words) (length out) .text
 call-text {words} {log} {out} h f =
     let text : List ℕ = blockOf log (listingAt words) (length out) .text in
     rw (f .fills (enough words h) .left) (take-at text (drop (0 + length text) out) _ (sym (f .fills (enough words h) .count)))
@@ -44,7 +46,8 @@ calls log words words₁ text r short h began all =
     blocks log text short (subst (λ (k : Listing). Blocks log k text) (began .begins (enough words h) .state .listing) (all-calls all))
 
 pub none-more : NoneMore
-none-more words log out words₁ out₁ h room f = none-left-over log (listingAt words) (length out) room (by (blockOf log (listingAt words) (length out) .text) (f .fills (enough words h) .count))
+none-more words log out words₁ out₁ h room f =
+    none-left-over log (listingAt words) (length out) room (by (blockOf log (listingAt words) (length out) .text) (f .fills (enough words h) .count))
   where
     by : (text : List ℕ) → 0 ≡ length text → text ≡ []
     by [] e = refl

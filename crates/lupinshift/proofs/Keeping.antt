@@ -1,4 +1,5 @@
--- The section's words copied, and five numbers behind them, stand in a row before what was behind them: `stored`. Words so stored stand for the listing that they were made of: `holds`.
+-- The section's words copied, and five numbers behind them, stand in a row before what was behind them: `stored`. Words so stored are those of the listing that they were
+-- made of: `holds`.
 -- A call with too few words, and one with enough: `begins-none`, `begins`, `fills-none`, `fills`.
 -- Assumes nothing.
 use Prim.Native.Nat.{_+_, _<_, _≤_, ℕ}
@@ -22,7 +23,8 @@ use native.Mathlib.Omega.{arith}
 -- ---- words read
 
 -- a run of words copied over a list of just that length is the run
-pub read : (words zeros : List ℕ) {after : List ℕ} (first n : ℕ) → after ≡ pasted zeros 0 (take n (drop first words)) → length zeros ≡ n → first + n ≤ length words → after ≡ take n (drop first words)
+pub read : (words zeros : List ℕ) {after : List ℕ} (first n : ℕ) → after ≡ pasted zeros 0 (take n (drop first words)) → length zeros ≡ n → first + n ≤ length words
+    → after ≡ take n (drop first words)
 read words zeros first n copied size room =
     let run : List ℕ = take n (drop first words) in
     let long : length run ≡ n = length-take-le n (drop first words) (simp length-drop (omega arith)) in
@@ -35,7 +37,8 @@ read words zeros first n copied size room =
 paste-on : (head words run : List ℕ) (n m : ℕ) → length head ≡ n → n + length run ≡ m → pasted (head ++ drop n words) n run ≡ (head ++ run) ++ drop m words
 paste-on head words run n m size e =
     let behind : drop (n + length run) (head ++ drop n words) ≡ drop m words =
-    sym (drop-drop (length run) n (head ++ drop n words)) ∙ ap (drop (length run)) (drop-at head (drop n words) n size) ∙ drop-drop (length run) n words ∙ ap (λ (k : ℕ). drop k words) e in
+    sym (drop-drop (length run) n (head ++ drop n words)) ∙ ap (drop (length run)) (drop-at head (drop n words) n size)
+    ∙ drop-drop (length run) n words ∙ ap (λ (k : ℕ). drop k words) e in
     rw (take-at head (drop n words) n size, behind) (sym (append-assoc head run (drop m words)))
 
 pub stored : (words section : List ℕ) (at left entries accepted ended : ℕ) → length section ≡ wordCount → stateWords ≤ length words

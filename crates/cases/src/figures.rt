@@ -3,6 +3,7 @@ ghost use Prim.Native.Nat.{_*_, _+_, _≤_};
 ghost use Rattle.cases.specs.Figures.{clearsAt, deskAt, entryIn, intervalOf, movementOf, numberAt, placesAt, sectionIn, vehicleAt};
 ghost use lib.ListN.{length};
 ghost use mathlib.Core.Path.{_≡_};
+use crate::input::Head;
 use crate::input::number_at;
 use crate::input::wide;
 use working::Clears;
@@ -41,7 +42,7 @@ fn movement_in(kind: u8, asked: u8, granted: u8) -> Movement
 }
 
 // The nine bytes of a place.
-fn vehicle_in(figures: &[u8; 250], at: usize) -> Vehicle
+fn vehicle_in(figures: &Head, at: usize) -> Vehicle
     requires { ⌜ at + 9 ≤ 250 ⌝ }
     ensures { λ r. ⌜ r ≡ vehicleAt (now (figures .entry)) at ⌝ }
 {
@@ -56,7 +57,7 @@ fn vehicle_in(figures: &[u8; 250], at: usize) -> Vehicle
 }
 
 // The 24 places.
-fn vehicles_in(figures: &[u8; 250]) -> [Vehicle; Section::PLACES]
+fn vehicles_in(figures: &Head) -> [Vehicle; Section::PLACES]
     ensures { λ r. ⌜ r ≡ placesAt 24 (now (figures .entry)) 0 ⌝ }
 {
     let mut places = [Vehicle::unused(); Section::PLACES];
@@ -79,7 +80,7 @@ fn interval_in(running: u8, minute: u16) -> Interval
 }
 
 // The three bytes of the line clears at a desk.
-fn clears_in(figures: &[u8; 250], at: usize) -> Clears
+fn clears_in(figures: &Head, at: usize) -> Clears
     requires { ⌜ at + 3 ≤ 250 ⌝ }
     ensures { λ r. ⌜ r ≡ clearsAt (now (figures .entry)) at ⌝ }
 {
@@ -91,7 +92,7 @@ fn clears_in(figures: &[u8; 250], at: usize) -> Clears
 }
 
 // The thirteen bytes of a desk.
-fn desk_in(figures: &[u8; 250], at: usize) -> Desk
+fn desk_in(figures: &Head, at: usize) -> Desk
     requires { ⌜ at + 13 ≤ 250 ⌝ }
     ensures { λ r. ⌜ r ≡ deskAt (now (figures .entry)) at ⌝ }
 {
@@ -107,7 +108,7 @@ fn desk_in(figures: &[u8; 250], at: usize) -> Desk
 }
 
 // The count of refused entries, four bytes.
-fn refused_in(figures: &[u8; 250]) -> u32
+fn refused_in(figures: &Head) -> u32
     ensures { λ r. ⌜ r ≡ numberAt (now (figures .entry)) 218 * 65536 + numberAt (now (figures .entry)) 220 ⌝ }
 {
     let high = number_at(figures, REFUSED);
@@ -116,7 +117,7 @@ fn refused_in(figures: &[u8; 250]) -> u32
 }
 
 // The section that the figures say, well made or not.
-pub(crate) fn section_in(figures: &[u8; 250]) -> Section
+pub(crate) fn section_in(figures: &Head) -> Section
     ensures { λ r. ⌜ r ≡ sectionIn (now (figures .entry)) ⌝ }
 {
     Section {
@@ -130,7 +131,7 @@ pub(crate) fn section_in(figures: &[u8; 250]) -> Section
 }
 
 // An entry's map and fields, absent ones too.
-pub(crate) fn entry_in(head: &[u8; 250]) -> Entry
+pub(crate) fn entry_in(head: &Head) -> Entry
     ensures { λ r. ⌜ r ≡ entryIn (now (head .entry)) ⌝ }
 {
     Entry {

@@ -6,6 +6,11 @@ ghost use lib.ListN.{length};
 ghost use mathlib.Core.Path.{_≡_};
 use libc::STDIN_FILENO;
 
+// The longest head, of a step: a section's figures, and the length of the bytes behind them.
+pub(crate) const LONGEST_HEAD: usize = 250;
+
+pub(crate) type Head = [u8; LONGEST_HEAD];
+
 // What was read: the case, 0 where there is no whole one, and how many bytes lie in the room.
 pub(crate) struct Case {
     pub kind: u8,
@@ -27,7 +32,7 @@ fn number(high: u8, low: u8) -> u16
 }
 
 // The number at a place, high byte first.
-pub(crate) fn number_at(head: &[u8; 250], at: usize) -> u16
+pub(crate) fn number_at(head: &Head, at: usize) -> u16
     requires { ⌜ at + 2 ≤ 250 ⌝ }
     ensures { λ r. ⌜ r ≡ numberAt (now (head .entry)) at ⌝ }
 {
@@ -57,7 +62,7 @@ fn head_length(kind: u8) -> usize
 {
     match kind {
         1 => 2,
-        2 => 250,
+        2 => LONGEST_HEAD,
         3 => 16,
         4 => 4,
         _ => 0,
@@ -65,7 +70,7 @@ fn head_length(kind: u8) -> usize
 }
 
 // Reads the next case, its head to the front of the head lent and its bytes to the front of the room.
-pub(crate) fn read_case(head: &mut [u8; 250], room: &mut [u8]) -> Case
+pub(crate) fn read_case(head: &mut Head, room: &mut [u8]) -> Case
     ensures { λ r. ⌜ Counts (r .count) (now (room .exit)) ⌝ }
 {
     let kind = read_kind();

@@ -4,6 +4,8 @@ ghost use Prim.Native.Nat.{_≤_};
 ghost use lib.ListN.{length};
 use figures::entry_in;
 use figures::section_in;
+use input::Head;
+use input::LONGEST_HEAD;
 use input::number_at;
 use input::read_case;
 use logs::run_log;
@@ -22,7 +24,7 @@ mod text;
 mod written;
 
 // Runs a case of which the head and the bytes were read.
-fn run_case(kind: u8, head: &[u8; 250], bytes: &mut [u8])
+fn run_case(kind: u8, head: &Head, bytes: &mut [u8])
     requires { ⌜ length (now bytes) ≤ 4096 ⌝ }
 {
     match kind {
@@ -37,7 +39,7 @@ fn run_case(kind: u8, head: &[u8; 250], bytes: &mut [u8])
 fn run_next(room: &mut [u8]) -> bool
     requires { ⌜ length (now room) ≤ 4096 ⌝ }
 {
-    let mut head = [0u8; 250];
+    let mut head = [0u8; LONGEST_HEAD];
     let case = read_case(&mut head, room);
     let count = case.count;
     if case.kind == 0 {

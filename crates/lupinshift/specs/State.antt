@@ -85,8 +85,8 @@ pub data Calls : List ℕ → List ℕ → List ℕ → Type 0 where
 
 -- from a start in enough words they are together the listing of the log
 abbrev pub CallsAreListing : Type 0
-CallsAreListing = (log words words₁ text : List ℕ) (r : ℕ) → length log < largestCount → stateWords ≤ length words → Begins log words r words₁ → Calls log words₁ text
-    → text ≡ listingOf log
+CallsAreListing = (log words words₁ text : List ℕ) (r : ℕ) → length log < largestCount → stateWords ≤ length words
+    → Begins log words r words₁ → Calls log words₁ text → text ≡ listingOf log
 
 -- a call with enough words and room for a line answers 0 only where the listing has ended
 abbrev pub NoneMore : Type 0

@@ -12,8 +12,10 @@ use native.Mathlib.Omega.{arith}
 
 returns-2 : tie.Need-returns-2
 returns-2 c =
-    let read = c .before .before .read-full in
-    let args = c .before .before .before .before .before .before .args in
+    let filled = c .before .before in
+    let lent = filled .before .before in
+    let args = lent .before .before .args in
+    let read = filled .read-full in
     let inside : read .result ≤ length (read .last .1 .0 ++ drop (args .count) (args .room .now)) = simp length-append (omega (arith, read .ensures .0)) in
     (inside, sym (length-take-le _ _ inside))
 

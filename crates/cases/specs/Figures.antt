@@ -1,5 +1,6 @@
 -- docs/CASES.md: what the figures of a section say, and those of an entry.
 use Prim.Native.Nat.{_*_, _+_, suc, zero, ℕ}
+use Rattle.working.specs.Sections.{freshDesk, withFigures}
 use Rattle.working.specs.declared.Clears.{Clears}
 use Rattle.working.specs.declared.Desk.{Desk}
 use Rattle.working.specs.declared.Entry.{Entry}
@@ -49,17 +50,12 @@ intervalOf running minute = cond (eqb running 1) (Since minute) Stopped
 abbrev pub clearsAt : List ℕ → ℕ → Clears
 clearsAt figures at = record { asked = byteAt figures at; holds = byteAt figures (at + 1); owes = byteAt figures (at + 2) }
 
--- the thirteen bytes of a desk
-abbrev pub deskAt : List ℕ → ℕ → Desk
-deskAt figures at = record {
-  clock = numberAt figures at;
-  last = numberAt figures (at + 2);
-  sent = byteAt figures (at + 4);
-  interval = intervalOf (byteAt figures (at + 5)) (numberAt figures (at + 6));
-  out = eqb (byteAt figures (at + 8)) 1;
-  guest = byteAt figures (at + 9);
-  clears = clearsAt figures (at + 10);
-}
+-- the thirteen bytes of a desk; a figure that they do not give is that of d
+abbrev pub deskAt : List ℕ → ℕ → Desk → Desk
+deskAt figures at d =
+    withFigures (numberAt figures at) (numberAt figures (at + 2)) (byteAt figures (at + 4))
+    (intervalOf (byteAt figures (at + 5)) (numberAt figures (at + 6)))
+    (eqb (byteAt figures (at + 8)) 1) (byteAt figures (at + 9)) (clearsAt figures (at + 10)) d
 
 -- the 248 bytes of a section
 abbrev pub sectionIn : List ℕ → Section
@@ -68,8 +64,8 @@ sectionIn figures = record {
   len = byteAt figures 216;
   force = eqb (byteAt figures 217) 1;
   refused = numberAt figures 218 * 65536 + numberAt figures 220;
-  a = deskAt figures 222;
-  b = deskAt figures 235;
+  a = deskAt figures 222 freshDesk;
+  b = deskAt figures 235 freshDesk;
 }
 
 -- "an entry of 12 bytes (map 1, kind 1, station 1, time 2, view 1, class 1, asked 1, granted 1, sender 1, number 2)"

@@ -91,10 +91,10 @@ fn clears_in(figures: &Head, at: usize) -> Clears
     }
 }
 
-// The thirteen bytes of a desk.
-fn desk_in(figures: &Head, at: usize) -> Desk
+// The thirteen bytes of a desk; a figure that they do not give is that of `other`.
+fn desk_in(figures: &Head, at: usize, other: Desk) -> Desk
     requires { ⌜ at + 13 ≤ 250 ⌝ }
-    ensures { λ r. ⌜ r ≡ deskAt (now (figures .entry)) at ⌝ }
+    ensures { λ r. ⌜ r ≡ deskAt (now (figures .entry)) at other ⌝ }
 {
     Desk {
         clock: number_at(figures, at),
@@ -104,6 +104,7 @@ fn desk_in(figures: &Head, at: usize) -> Desk
         out: figures[at + 8] == 1,
         guest: figures[at + 9],
         clears: clears_in(figures, at + 10),
+        ..other
     }
 }
 
@@ -125,8 +126,8 @@ pub(crate) fn section_in(figures: &Head) -> Section
         len: wide(figures[PRESENT]) as usize,
         force: figures[FORCE] == 1,
         refused: refused_in(figures),
-        a: desk_in(figures, DESK_A),
-        b: desk_in(figures, DESK_B),
+        a: desk_in(figures, DESK_A, Desk::fresh()),
+        b: desk_in(figures, DESK_B, Desk::fresh()),
     }
 }
 

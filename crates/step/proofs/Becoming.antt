@@ -1,5 +1,5 @@
 -- How the words of a section become those of the section after an entry: what its tests come to decides whether it is refused or carried out, and the changes of the
--- line and of a desk, one after another, are those of the definition.
+-- vehicles present and of a desk, one after another, are those of the definition.
 -- Assumes nothing.
 use Prim.Native.Nat.{_+_, _-_, _<_, ℕ}
 use Rattle.step.specs.Entering.{Does, Enters, Leaves, Refuses, startIfAnew}
@@ -37,7 +37,7 @@ use mathlib.Core.List.{List, [], _++_, _∷_}
 use mathlib.Core.Path.{_∙_, _≡_, ap, ap₂, refl, subst, sym}
 use native.Mathlib.Omega.{arith}
 
--- ---- a desk, and the line before it
+-- ---- a desk, and the vehicles before it
 
 -- a desk that became d, by another name
 pub desk-is : {w w₁ : List ℕ} (x : Station) {d e : Desk} → d ≡ e → Becomes w w₁ (withDesk (sectionIn w) x d) (startIn w) → Becomes w w₁ (withDesk (sectionIn w) x e) (startIn w)
@@ -48,16 +48,16 @@ vehicles-desk s l A = refl
 vehicles-desk s l B = refl
 
 pub desk-behind : {w w₁ : List ℕ} (x : Station) (f : List Vehicle → List Vehicle) (start : ℕ → ℕ) → VehiclesBecome w w₁ f start → deskOf (sectionIn w₁) x ≡ deskOf (sectionIn w) x
-desk-behind {w} x f start line = ap (λ (t : Section). deskOf t x) (line .section) ∙ vehicles-desk (sectionIn w) (f (vehiclesOf (sectionIn w))) x
+desk-behind {w} x f start present = ap (λ (t : Section). deskOf t x) (present .section) ∙ vehicles-desk (sectionIn w) (f (vehiclesOf (sectionIn w))) x
 
--- the line is changed, and then a desk, which was d
-pub line-and-desk : {w w₁ w₂ : List ℕ} (x : Station) (f : List Vehicle → List Vehicle) (start : ℕ → ℕ) (g : Desk → Desk) {d : Desk} → d ≡ deskOf (sectionIn w) x
+-- the vehicles are changed, and then a desk, which was d
+pub vehicles-and-desk : {w w₁ w₂ : List ℕ} (x : Station) (f : List Vehicle → List Vehicle) (start : ℕ → ℕ) (g : Desk → Desk) {d : Desk} → d ≡ deskOf (sectionIn w) x
     → VehiclesBecome w w₁ f start → DeskBecomes w₁ w₂ x g → Becomes w w₂ (withDesk (withVehicles (sectionIn w) (f (vehiclesOf (sectionIn w)))) x (g d)) (start (startIn w))
-line-and-desk {w} {w₁} x f start g {d} was line desk =
+vehicles-and-desk {w} {w₁} x f start g {d} was present desk =
     let t = withVehicles (sectionIn w) (f (vehiclesOf (sectionIn w))) in
     let whole : withDesk (sectionIn w₁) x (g (deskOf (sectionIn w₁) x)) ≡ withDesk t x (g d) =
-    ap₂ (λ (u : Section) (e : Desk). withDesk u x (g e)) (line .section) (desk-behind x f start line ∙ sym was) in
-    becomes-as (becomes-then line (becomes-as desk whole refl) (λ few. omega (arith, desk-length t x (g d)))) refl (line .start)
+    ap₂ (λ (u : Section) (e : Desk). withDesk u x (g e)) (present .section) (desk-behind x f start present ∙ sym was) in
+    becomes-as (becomes-then present (becomes-as desk whole refl) (λ few. omega (arith, desk-length t x (g d)))) refl (present .start)
 
 -- ---- a station's act
 
@@ -160,7 +160,7 @@ may-leave {e = e} p tests are is =
 -- a vehicle is put in, and then the figures
 pub leaves : {w u w₁ : List ℕ} {x : Station} {time : ℕ} {d : Desk} {movement : Movement} {class : ℕ} {v : Vehicle} → v ≡ vehicleFor x (nextForm d) movement class
     → VehiclesBecome w u (insertAt x v) (λ start. startOn x start 31) → DeskBecomes u w₁ x (withDeparture time (nextForm d) (d .sent + 1)) → Leaves w x time d movement class w₁
-leaves {u = u} is line desk = record { between = u; vehicle = rw (← is) line; figures = desk }
+leaves {u = u} is present desk = record { between = u; vehicle = rw (← is) present; figures = desk }
 
 -- it has left, and then the kind changes figures of its own
 module _ {w w₁ : List ℕ} {e : Entry} (l : Looked w e) {movement : Movement} {class : ℕ} (left : Leaves w (l .at) (e .time) (l .desk) movement class w₁) where
@@ -171,12 +171,12 @@ module _ {w w₁ : List ℕ} {e : Entry} (l : Looked w e) {movement : Movement} 
   figures = withDeparture (e .time) (nextForm (l .desk)) (l .desk .sent + 1)
 
   pub has-left : Becomes w w₁ (withDesk (withVehicles (sectionIn w) (inserted (vehiclesOf (sectionIn w)))) (l .at) (figures (l .desk))) (startOn (l .at) (startIn w) 31)
-  has-left = line-and-desk (l .at) inserted (λ start. startOn (l .at) start 31) figures (l .desk-is) (left .vehicle) (left .figures)
+  has-left = vehicles-and-desk (l .at) inserted (λ start. startOn (l .at) start 31) figures (l .desk-is) (left .vehicle) (left .figures)
 
   pub left-with : {w₂ : List ℕ} (g : Desk → Desk) → DeskBecomes w₁ w₂ (l .at) g
       → Becomes w w₂ (withDesk (withVehicles (sectionIn w) (inserted (vehiclesOf (sectionIn w)))) (l .at) (g (figures (l .desk)))) (startOn (l .at) (startIn w) 31)
   left-with g desk =
-      line-and-desk (l .at) inserted (λ start. startOn (l .at) start 31) (λ d. g (figures d)) (l .desk-is) (left .vehicle) (desk-then (l .at) figures g (left .figures) desk)
+      vehicles-and-desk (l .at) inserted (λ start. startOn (l .at) start 31) (λ d. g (figures d)) (l .desk-is) (left .vehicle) (desk-then (l .at) figures g (left .figures) desk)
 
 -- what a receipt puts, figure by figure, is the definition's desk, by whose vehicle it is and what it left on
 module _ {d e : Desk} {time : ℕ} {m : Movement} (was : d ≡ e) where

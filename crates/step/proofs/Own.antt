@@ -1,4 +1,4 @@
--- A well-made section is its own line padded: the places past the vehicles present are blank, and a blank place is the unused one. Words that are a section's own stay a
+-- A well-made section is its own vehicles padded: the places past the vehicles present are blank, and a blank place is the unused one. Words that are a section's own stay a
 -- section's own.
 -- Assumes nothing.
 use Prim.Native.Nat.{_≤_, suc, zero, ℕ}

@@ -1,6 +1,6 @@
 -- `receipts::enter_receive` meets its contract: the tests are the definition's, and where none holds the vehicle is taken and the desk altered by it.
 -- Assumes nothing.
-use Rattle.step.proofs.Becoming.{Looked, Passed, act-done, desk-behind, first-refused, line-and-desk, look, own-refused, pass}
+use Rattle.step.proofs.Becoming.{Looked, Passed, act-done, desk-behind, first-refused, look, own-refused, pass, vehicles-and-desk}
 use Rattle.step.proofs.receipts.enter_receive.Statement.{statement}
 use Rattle.step.proofs.receipts.enter_receive.Tie as tie
 use Rattle.words.specs.Words.{startOn}
@@ -61,7 +61,7 @@ receives c =
     (record {
       answer = c .accepted .ensures;
       words = rw (← near .ensures)
-          (line-and-desk x (removeAt x) (λ start. startOn x start 1) (λ d. arriveDesk x d (start-of (first-of own) .args .e .time) (near .result)) (p .looked .desk-is)
+          (vehicles-and-desk x (removeAt x) (λ start. startOn x start 1) (λ d. arriveDesk x d (start-of (first-of own) .args .e .time) (near .result)) (p .looked .desk-is)
           (removed .remove .ensures) (taken .arrive .ensures));
     })
 

@@ -15,7 +15,7 @@ returns-2 c =
     let list = c .before .before in
     let test = list .before .before in
     let start = test .before .before .before .before in
-    lists (omega (arith, start .good .0 .1)) (rw (test .before .listing-room .ensures) at (test .if1 .left)) (list .list .ensures)
+    lists (omega (arith, start .good)) (rw (test .before .listing-room .ensures) at (test .if1 .left)) (list .list .ensures)
 
 pub lupin-list-spec : {M : Type 1} → statement M
 lupin-list-spec = tie.close (tie.spec (λ c κs. search needs) returns (λ c κs. search needs) (λ c. search needs) returns-2)

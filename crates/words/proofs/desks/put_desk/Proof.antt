@@ -49,7 +49,7 @@ returns c =
     let d = a .d in
     let less = start .figures .ensures .1 in
     let same : Same (deskWords (deskRead (deskWords d))) (deskWords d) =
-    omega (arith, first .good .1 .1 .0, ap oneIf (one-back (d .out)), ap intervalNumber (interval-back (d .interval) less)) in
+    omega (arith, first .good, ap oneIf (one-back (d .out)), ap intervalNumber (interval-back (d .interval) less)) in
     desk-becomes (λ z. d) (put-as (λ u. f) (at-end (c .before .loop .inv) (omega arith)) (figures-all f t deskLength (omega arith) (omega arith)))
     (rw (start .figures .ensures .0) (desk-back d less same)) (λ z. start .figures .ensures .0)
 

@@ -17,6 +17,7 @@ use Rattle.working.specs.Reasons.{beginTests, findOf, isNamed, mayEnter,
 use Rattle.working.specs.Sections.{deskOf, emptied, insertAt, vehiclesOf, nearestAt, otherAt, padTo, withDesk, withVehicles}
 use Rattle.working.specs.Steps.{accepted, doneBy, entered, metAt, onDecoded, planOf, refused, settled, stepOf, redirectAt}
 use Rattle.working.specs.WellMade.{wellMade}
+use Rattle.working.specs.declared.Counts.{Counts}
 use Rattle.working.specs.declared.Desk.{Desk}
 use Rattle.working.specs.declared.Refusal.{Refusal}
 use Rattle.working.specs.declared.Section.{Section}
@@ -57,10 +58,10 @@ well-meet s x i g may =
 -- ---- the cases
 
 pub data Change (s : Section) : Decoded → Stepped → Type 0 where
-  refusal : (e : Decoded) (why : Refusal) → Change s e (refused s why)
+  refusal : (e : Decoded) (why : Refusal) → Change s e (refused s e why)
   emptying : (e : Decoded) (force : Bool) → Change s e (accepted (emptied force (s .refused)))
   departure : (x : Station) (time : ℕ) (act : Act) {p : Departing} → s .force ≡ true → Departs act x (deskOf s x) p
-      → Well x (p .desk) (deskOf s (otherAt x)) (insertAt x (p .vehicle) (vehiclesOf s)) → Change s (Says (At x time act)) (doneBy s x (Depart p))
+      → Well x (p .desk) (deskOf s (otherAt x)) (insertAt x (p .vehicle) (vehiclesOf s)) → Change s (Says (At x time act)) (doneBy s (Says (At x time act)) x (Depart p))
   arrival : (x : Station) (time : ℕ) (y : Station) (n : ℕ) (k : Nearest x (vehiclesOf s)) → s .force ≡ true → mayEnter x (k .vehicle) ≡ true
       → Well x (arriveDesk x (deskOf s x) time (k .vehicle)) (deskOf s (otherAt x)) (k .others)
       → Change s (Says (At x time (acts.Receive y n))) (accepted (withDesk (withVehicles s (k .others)) x (arriveDesk x (deskOf s x) time (k .vehicle))))
@@ -68,7 +69,7 @@ pub data Change (s : Section) : Decoded → Stepped → Type 0 where
       → Change s (Says (Meet x y n)) (accepted (withVehicles s (metAt x i (vehiclesOf s))))
 
 fated : (s : Section) (x : Station) (time : ℕ) (act : Act) (p : Plan) → Sound s → Fate act x (s .force) (deskOf s x) time (nearestAt x (vehiclesOf s)) p
-    → Change s (Says (At x time act)) (doneBy s x p)
+    → Change s (Says (At x time act)) (doneBy s (Says (At x time act)) x p)
 fated s x time act p g (refuses why) = refusal (Says (At x time act)) why
 fated s x time act p g (departs {p = q} f leaves) =
     departure x time act f leaves (well-insert act x (deskOf s x) (deskOf s (otherAt x)) q (vehiclesOf s) (well-at s x g) leaves)
@@ -82,17 +83,18 @@ fated s x time act p g (arrives y n is f named may) =
 changed : (s : Section) (e : Event) → Sound s → Ranged e → Change s (Says e) (entered s e)
 unfolding entered
 changed s Begin g r =
-    scanned (λ v. Change s (Says Begin) (settled s v (emptied true (s .refused)))) (beginTests (s .force)) (refusal (Says Begin))
+    scanned (λ v. Change s (Says Begin) (settled s (Says Begin) v (emptied true (s .refused)))) (beginTests (s .force)) (refusal (Says Begin))
     (λ n. emptying (Says Begin) true)
 changed s (At x time act) g r =
     fated s x time act (planOf act x (s .force) (deskOf s x) time (nearestAt x (vehiclesOf s))) g
     (fate act x (s .force) (deskOf s x) time (nearestAt x (vehiclesOf s)) r (well-at s x g .own .bounds))
 changed s (Meet x y n) g r =
     let i = findOf y n (vehiclesOf s) in
-    scanned (λ v. Change s (Says (Meet x y n)) (settled s v (withVehicles s (metAt x i (vehiclesOf s))))) (meetTests (s .force) (vehiclesOf s) i) (refusal (Says (Meet x y n)))
+    let e = Says (Meet x y n) in
+    scanned (λ v. Change s e (settled s e v (withVehicles s (metAt x i (vehiclesOf s))))) (meetTests (s .force) (vehiclesOf s) i) (refusal e)
     (λ none. let p = meet-passes (s .force) (vehiclesOf s) i none in meeting x y n i (p .begun) (well-meet s x i g (p .may)))
 changed s Resume g r =
-    scanned (λ v. Change s (Says Resume) (settled s v (emptied false (s .refused)))) (resumeTests (s .force) (s .len)) (refusal (Says Resume))
+    scanned (λ v. Change s (Says Resume) (settled s (Says Resume) v (emptied false (s .refused)))) (resumeTests (s .force) (s .len)) (refusal (Says Resume))
     (λ n. emptying (Says Resume) false)
 
 pub step-is : (s : Section) (bytes : List ℕ) → wellMade s ≡ true → stepOf s bytes ≡ onDecoded s (decode bytes)
@@ -117,10 +119,10 @@ sound-with s x e l f w = record { places = places x; well = made-of s x e l f w 
     places A = length-padTo 24 l
     places B = length-padTo 24 l
 
-pub sound-emptied : (force : Bool) (n : ℕ) → Sound (emptied force n)
+pub sound-emptied : (force : Bool) (counts : Counts) → Sound (emptied force counts)
 unfolding wellMade padTo
-sound-emptied true n = record { places = refl; well = refl }
-sound-emptied false n = record { places = refl; well = refl }
+sound-emptied true counts = record { places = refl; well = refl }
+sound-emptied false counts = record { places = refl; well = refl }
 
 sound-change : (s : Section) (e : Decoded) (r : Stepped) → Sound s → Change s e r → Sound (r .section)
 unfolding wellMade

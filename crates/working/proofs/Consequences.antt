@@ -6,7 +6,7 @@ use Rattle.working.proofs.Computing.{step-computes}
 use Rattle.working.proofs.Demand3.{demand3}
 use Rattle.working.proofs.Vehicles.{other-differs}
 use Rattle.working.proofs.Lists.{Todo, after, done, runs}
-use Rattle.working.proofs.Literals.{begin, figures, opens, plain, receive, resume, returns, returnsAsking, sameSection, through, train, trainGranting, vehicle, working}
+use Rattle.working.proofs.Literals.{begin, counts, figures, opens, plain, receive, resume, returns, returnsAsking, sameSection, through, train, trainGranting, vehicle, working}
 use Rattle.working.proofs.Tests.{both}
 use Rattle.working.specs.Acts as acts
 use Rattle.working.specs.Demand3.{isDeparture, onTheWayTo, trainsOf, vehicleAt}
@@ -14,7 +14,7 @@ use Rattle.working.specs.Departures.{Departure, Kind, OPEN, RETURN, THRO
 use Rattle.working.specs.Effects.{isSlow}
 use Rattle.working.specs.Entries.{every}
 use Rattle.working.specs.Runs.{Done, Form, Run, byValue, inPlace, results}
-use Rattle.working.specs.Sections.{deskOf, emptied, fresh, freshDesk, numberAt, otherAt}
+use Rattle.working.specs.Sections.{deskOf, emptied, fresh, freshDesk, noneRefused, numberAt, otherAt}
 use Rattle.working.specs.declared.Answer.the-variants.{Accepted, Refused}
 use Rattle.working.specs.declared.Answer.{Answer}
 use Rattle.working.specs.declared.Interval.the-variants.{Since, Stopped}
@@ -78,9 +78,9 @@ following x = running x ++ trainGranting (numberAt x) 121 3 ∷ []
 -- no bytes, BEGIN, an OPEN: whatever the forms, and whatever answers a run of these bytes is said to have
 each-fixed : {f g h : Form} {a b c : Answer} {s : Section}
     (run : Run fresh (handed f [] a ∷ handed g begin b ∷ handed h (opens 1 10 1 2) c ∷ []) s)
-    → results run ≡ record { answer = Refused EndsInside; section = emptied false 1 }
-    ∷ record { answer = plain; section = emptied true 1 }
-    ∷ record { answer = Accepted 1 7 (Kmh 15); section = working 1 (vehicle (Open 2) 1 1 2 false 1 ∷ []) (figures 10 1 1 (Since 10) true 0 0 0 0) freshDesk }
+    → results run ≡ record { answer = Refused EndsInside; section = emptied false (counts 0 0 1) }
+    ∷ record { answer = plain; section = emptied true (counts 0 0 1) }
+    ∷ record { answer = Accepted 1 7 (Kmh 15); section = working (counts 0 0 1) (vehicle (Open 2) 1 1 2 false 1 ∷ []) (figures 10 1 1 (Since 10) true 0 0 0 0) freshDesk }
     ∷ []
 unfolding step-computes
 each-fixed run = demand3 run .each
@@ -356,11 +356,11 @@ train-and-receipt-exchanged = (
 
 -- the sections that these lists end in, in figures
 abbrev ended : Section
-ended = working 2 (vehicle Through 2 2 1 false 1 ∷ []) (figures 121 3 2 (Since 121) false 0 0 0 0) (figures 155 2 1 (Since 155) false 0 0 0 0)
+ended = working (counts 0 0 2) (vehicle Through 2 2 1 false 1 ∷ []) (figures 121 3 2 (Since 121) false 0 0 0 0) (figures 155 2 1 (Since 155) false 0 0 0 0)
 
 exchanged-ends :
     every
-    (sameSection (after fresh takenBack) (working 0 [] (figures 1 1 0 Stopped false 0 0 0 0) (figures 2 1 0 Stopped false 0 0 0 0))
+    (sameSection (after fresh takenBack) (working noneRefused [] (figures 1 1 0 Stopped false 0 0 0 0) (figures 2 1 0 Stopped false 0 0 0 0))
     ∷ sameSection (after fresh sentThenTaken) ended
     ∷ sameSection (after fresh takenThenSent) ended
     ∷ [])

@@ -67,34 +67,34 @@ fine-first (t ∷ ts) h = let p = both (notFive (t .1)) (noFive ts) h in by (t .
     by false here later = later
 
 module _ (s : Section) where
-  fine-settled : (ts : List Test) (t : Section) → noFive ts ≡ true → Fine (settled s (firstOf ts) t .answer)
-  fine-settled ts t h = by (firstOf ts) (fine-first ts h)
+  fine-settled : (e : Decoded) (ts : List Test) (t : Section) → noFive ts ≡ true → Fine (settled s e (firstOf ts) t .answer)
+  fine-settled e ts t h = by (firstOf ts) (fine-first ts h)
     where
-      by : (v : Verdict) → fineVerdict v → Fine (settled s v t .answer)
+      by : (v : Verdict) → fineVerdict v → Fine (settled s e v t .answer)
       by (Refused why) h = h
       by Allowed h = tt
 
-  fine-done : (x : Station) (ts : List Test) (p : Plan) → noFive ts ≡ true → Fine (doneBy s x p .answer)
-      → Fine (doneBy s x (unlessRefused (firstOf ts) p) .answer)
-  fine-done x ts p h ok = by (firstOf ts) (fine-first ts h)
+  fine-done : (e : Decoded) (x : Station) (ts : List Test) (p : Plan) → noFive ts ≡ true → Fine (doneBy s e x p .answer)
+      → Fine (doneBy s e x (unlessRefused (firstOf ts) p) .answer)
+  fine-done e x ts p h ok = by (firstOf ts) (fine-first ts h)
     where
-      by : (v : Verdict) → fineVerdict v → Fine (doneBy s x (unlessRefused v p) .answer)
+      by : (v : Verdict) → fineVerdict v → Fine (doneBy s e x (unlessRefused v p) .answer)
       by (Refused why) h = h
       by Allowed h = ok
 
-  fine-act : (x : Station) (act : Act) (force : Bool) (d : Desk) (time : ℕ) (v : Vehicle) → Fine (doneBy s x (planOf act x force d time v) .answer)
-  fine-act x (acts.Open view class asked) force d time v = fine-done x (testsOf (acts.Open view class asked) x force d time v) _ refl tt
-  fine-act x (acts.Through view) force d time v = fine-done x (testsOf (acts.Through view) x force d time v) _ refl tt
-  fine-act x (acts.Return asked granted) force d time v = fine-done x (testsOf (acts.Return asked granted) x force d time v) _ refl tt
-  fine-act x (acts.Train view asked granted) force d time v = fine-done x (testsOf (acts.Train view asked granted) x force d time v) _ refl tt
-  fine-act x (acts.Receive sender form) force d time v = fine-done x (testsOf (acts.Receive sender form) x force d time v) _ refl tt
+  fine-act : (e : Decoded) (x : Station) (act : Act) (force : Bool) (d : Desk) (time : ℕ) (v : Vehicle) → Fine (doneBy s e x (planOf act x force d time v) .answer)
+  fine-act e x (acts.Open view class asked) force d time v = fine-done e x (testsOf (acts.Open view class asked) x force d time v) _ refl tt
+  fine-act e x (acts.Through view) force d time v = fine-done e x (testsOf (acts.Through view) x force d time v) _ refl tt
+  fine-act e x (acts.Return asked granted) force d time v = fine-done e x (testsOf (acts.Return asked granted) x force d time v) _ refl tt
+  fine-act e x (acts.Train view asked granted) force d time v = fine-done e x (testsOf (acts.Train view asked granted) x force d time v) _ refl tt
+  fine-act e x (acts.Receive sender form) force d time v = fine-done e x (testsOf (acts.Receive sender form) x force d time v) _ refl tt
 
   fine-entered : (e : Event) → Fine (entered s e .answer)
   unfolding entered
-  fine-entered Begin = fine-settled (beginTests (s .force)) _ refl
-  fine-entered (At x time act) = fine-act x act (s .force) (deskOf s x) time (nearestAt x (vehiclesOf s))
-  fine-entered (Meet x sender form) = fine-settled (meetTests (s .force) (vehiclesOf s) (findOf sender form (vehiclesOf s))) _ refl
-  fine-entered Resume = fine-settled (resumeTests (s .force) (s .len)) _ refl
+  fine-entered Begin = fine-settled (Says Begin) (beginTests (s .force)) _ refl
+  fine-entered (At x time act) = fine-act (Says (At x time act)) x act (s .force) (deskOf s x) time (nearestAt x (vehiclesOf s))
+  fine-entered (Meet x sender form) = fine-settled (Says (Meet x sender form)) (meetTests (s .force) (vehiclesOf s) (findOf sender form (vehiclesOf s))) _ refl
+  fine-entered Resume = fine-settled (Says Resume) (resumeTests (s .force) (s .len)) _ refl
 
 -- what bytes come to is no 5 either
 abbrev FineDecoded : Decoded → Type 0

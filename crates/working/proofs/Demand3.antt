@@ -16,7 +16,7 @@ use Rattle.working.specs.Demand3.{AcceptedAt, Demand3, ReceivesIt, onThe
 use Rattle.working.specs.Departures.{departureOf, leftSlowly}
 use Rattle.working.specs.Events.{decode}
 use Rattle.working.specs.Runs.{Done, Run, StepBy, next, stop}
-use Rattle.working.specs.Sections.{deskOf, fresh, vehiclesOf, otherAt, unused}
+use Rattle.working.specs.Sections.{deskOf, fresh, noneRefused, otherAt, unused, vehiclesOf}
 use Rattle.working.specs.Steps.{stepOf}
 use Rattle.working.specs.WellMade.{isOpener}
 use Rattle.working.specs.declared.Section.{Section}
@@ -50,7 +50,7 @@ kept-run h k stop = rw (append-nil h) k
 kept-run h k (next {s} {t} {d = d} {l = l} b r) = rw (append-assoc h (d ∷ []) l) at (kept-run (h ++ d ∷ []) (kept-step h d s t k b) r)
 
 pub kept : {l : List Done} {s : Section} → Run fresh l s → Kept l s
-kept run = kept-run [] (record { good = good-emptied false 0; told = tt }) run
+kept run = kept-run [] (record { good = good-emptied false noneRefused; told = tt }) run
 
 -- ---- two neighbours
 

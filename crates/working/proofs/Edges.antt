@@ -6,20 +6,24 @@
 -- Assumes nothing.
 use Prim.Native.Nat.{_+_, suc, ℕ}
 use Rattle.working.proofs.Computing.{step-computes}
-use Rattle.working.proofs.Literals.{begin, figures, meet, opens, plain, receive, resume, returns, sameSection, through, train, vehicle, working}
+use Rattle.working.proofs.Literals.{begin, counts, figures, meet, opens, plain, receive, resume, returns, sameSection, through, train, vehicle, working}
 use Rattle.working.specs.Entries.{every}
-use Rattle.working.specs.Sections.{fresh, freshDesk}
+use Rattle.working.specs.Sections.{fresh, freshDesk, noneRefused}
 use Rattle.working.specs.Steps.{stepOf}
 use Rattle.working.specs.WellMade.{wellMade}
 use Rattle.working.specs.declared.Answer.the-variants.{Accepted, Refused}
 use Rattle.working.specs.declared.Answer.{Answer}
+use Rattle.working.specs.declared.Counts.{Counts}
 use Rattle.working.specs.declared.Interval.the-variants.{Since, Stopped}
 use Rattle.working.specs.declared.Movement.the-variants.{Open, Return, Through, Train}
 use Rattle.working.specs.declared.Refusal.the-variants.{BeforeClock, EndsInside, FormsUsed, GrantNotAllowed, IntervalRunning, MayNotEnter, NoGuest, NotNearest, OutOfRange, TwelveSent, UnknownKind}
 use Rattle.working.specs.declared.Refusal.{Refusal}
 use Rattle.working.specs.declared.Section.{Section}
 use Rattle.working.specs.declared.Speed.the-variants.{Booked, Kmh, Walking}
+use Rattle.working.specs.declared.Station.the-variants.{A, B}
 use Rattle.working.specs.declared.Vehicle.{Vehicle}
+use Rattle.working.specs.declared.Whose.the-variants.{NoStation, Of}
+use Rattle.working.specs.declared.Whose.{Whose}
 use mathlib.Core.Bool.{cond, false, true}
 use mathlib.Core.List.{List, [], _∷_}
 use mathlib.Core.Path.{_≡_, refl}
@@ -69,7 +73,7 @@ eleven = after begun
 
 -- in force, with A's last form number 9,998 and nothing else
 pub worn : Section
-worn = working 0 [] (figures 0 9998 0 Stopped false 0 0 0 0) freshDesk
+worn = working noneRefused [] (figures 0 9998 0 Stopped false 0 0 0 0) freshDesk
 
 -- A1 and B1 opened and met towards B
 pub met : Section
@@ -80,9 +84,15 @@ met = after begun (opens 1 1 1 1 ∷ opens 2 1 1 1 ∷ meet 2 1 1 ∷ [])
 abbrev pub row : Section → List ℕ → Answer → Section → Edge
 row before bytes expected leaves = record { before = before; bytes = bytes; expected = expected; leaves = leaves }
 
--- "A refusal adds 1 to the count and alters nothing else": of a section whose count is below its largest value
-abbrev pub refused : Section → List ℕ → Refusal → Edge
-refused s bytes why = row s bytes (Refused why) (record { vehicles = s .vehicles; len = s .len; force = s .force; refused = s .refused + 1; a = s .a; b = s .b })
+-- "A refusal adds 1 to the count and alters nothing else": to that of those whose it is, where that is below its largest value
+abbrev plusOne : Whose → Counts → Counts
+plusOne (Of A) c = counts (c .a + 1) (c .b) (c .none)
+plusOne (Of B) c = counts (c .a) (c .b + 1) (c .none)
+plusOne NoStation c = counts (c .a) (c .b) (c .none + 1)
+
+abbrev pub refused : Whose → Section → List ℕ → Refusal → Edge
+refused whose s bytes why =
+    row s bytes (Refused why) (record { vehicles = s .vehicles; len = s .len; force = s .force; refused = plusOne whose (s .refused); a = s .a; b = s .b })
 
 -- vehicles on the way, unmet: A's OPEN and THROUGH, A's TRAIN, and B's RETURN of a light engine
 abbrev opener : ℕ → ℕ → Vehicle
@@ -101,46 +111,46 @@ replying granted form = vehicle (Return 0 granted) 2 form 1 false 1
 pub edges : List Edge
 edges =
     -- (a) no bytes: 1; map 0: 2
-    refused fresh [] EndsInside
-    ∷ refused fresh (0 ∷ []) UnknownKind
+    refused NoStation fresh [] EndsInside
+    ∷ refused NoStation fresh (0 ∷ []) UnknownKind
     -- (b) asked 8 accepted, 9 or a present 0: 4
-    ∷ row begun (opens 1 0 1 8) (Accepted 1 7 (Kmh 15)) (working 0 (opener 8 1 ∷ []) (figures 0 1 1 (Since 0) true 0 0 0 0) freshDesk)
-    ∷ refused begun (opens 1 0 1 9) OutOfRange
-    ∷ refused begun (opens 1 0 1 0) OutOfRange
+    ∷ row begun (opens 1 0 1 8) (Accepted 1 7 (Kmh 15)) (working noneRefused (opener 8 1 ∷ []) (figures 0 1 1 (Since 0) true 0 0 0 0) freshDesk)
+    ∷ refused NoStation begun (opens 1 0 1 9) OutOfRange
+    ∷ refused NoStation begun (opens 1 0 1 0) OutOfRange
     -- (c) time equal to the clock accepted, one less: 9
-    ∷ row (after begun (opens 1 10 1 1 ∷ [])) (receive 1 10 1 1) plain (working 0 [] (figures 10 1 0 Stopped false 0 0 0 0) freshDesk)
-    ∷ refused (after begun (opens 1 10 1 1 ∷ [])) (receive 1 9 1 1) BeforeClock
+    ∷ row (after begun (opens 1 10 1 1 ∷ [])) (receive 1 10 1 1) plain (working noneRefused [] (figures 10 1 0 Stopped false 0 0 0 0) freshDesk)
+    ∷ refused (Of A) (after begun (opens 1 10 1 1 ∷ [])) (receive 1 9 1 1) BeforeClock
     -- (d) follower at 29 minutes: 19, at 30 accepted
-    ∷ refused (after holding (train 1 96 ∷ [])) (train 1 125) IntervalRunning
+    ∷ refused (Of A) (after holding (train 1 96 ∷ [])) (train 1 125) IntervalRunning
     ∷ row (after holding (train 1 96 ∷ [])) (train 1 126) (Accepted 3 104 (Kmh 25))
-    (working 0 (following 3 ∷ following 2 ∷ []) (figures 126 3 2 (Since 126) false 0 0 0 0) (figures 75 1 1 (Since 75) false 0 0 0 2))
+    (working noneRefused (following 3 ∷ following 2 ∷ []) (figures 126 3 2 (Since 126) false 0 0 0 0) (figures 75 1 1 (Since 75) false 0 0 0 2))
     -- (e) twelfth THROUGH with no receipt accepted, thirteenth: 17
     ∷ row eleven (through 1 1 74) (Accepted 12 1 (Kmh 15))
-    (working 0
+    (working noneRefused
     (engine 12 ∷ engine 11 ∷ engine 10 ∷ engine 9 ∷ engine 8 ∷ engine 7 ∷ engine 6 ∷ engine 5 ∷ engine 4 ∷ engine 3 ∷ engine 2 ∷ engine 1 ∷ [])
     (figures 330 12 12 (Since 330) false 0 0 0 0) freshDesk)
-    ∷ refused (after eleven (through 1 1 74 ∷ [])) (through 1 1 104) TwelveSent
+    ∷ refused (Of A) (after eleven (through 1 1 74 ∷ [])) (through 1 1 104) TwelveSent
     -- (f) form 9,999 issued, next: 18
-    ∷ row worn (through 1 0 0) (Accepted 9999 1 (Kmh 15)) (working 0 (engine 9999 ∷ []) (figures 0 9999 1 (Since 0) false 0 0 0 0) freshDesk)
-    ∷ refused (after worn (through 1 0 0 ∷ [])) (through 1 0 30) FormsUsed
+    ∷ row worn (through 1 0 0) (Accepted 9999 1 (Kmh 15)) (working noneRefused (engine 9999 ∷ []) (figures 0 9999 1 (Since 0) false 0 0 0 0) freshDesk)
+    ∷ refused (Of A) (after worn (through 1 0 0 ∷ [])) (through 1 0 30) FormsUsed
     -- (g) granted equal to asked accepted, one more: 16
     ∷ row guest (returns 2 75 2) (Accepted 1 180 Booked)
-    (working 0 (replying 2 1 ∷ []) (figures 10 1 1 (Since 10) true 0 0 0 0) (figures 75 1 1 (Since 75) false 0 0 0 2))
-    ∷ refused guest (returns 2 75 3) GrantNotAllowed
+    (working noneRefused (replying 2 1 ∷ []) (figures 10 1 1 (Since 10) true 0 0 0 0) (figures 75 1 1 (Since 75) false 0 0 0 2))
+    ∷ refused (Of B) guest (returns 2 75 3) GrantNotAllowed
     -- (h) A1 and B1 opened, met towards B: A receiving A1: 21; B receiving A1: 20; B receiving B1 accepted
-    ∷ refused met (receive 1 2 1 1) MayNotEnter
-    ∷ refused met (receive 2 2 1 1) NotNearest
+    ∷ refused (Of A) met (receive 1 2 1 1) MayNotEnter
+    ∷ refused (Of B) met (receive 2 2 1 1) NotNearest
     ∷ row met (receive 2 2 2 1) plain
-    (working 0 (vehicle (Open 1) 1 1 2 true 1 ∷ []) (figures 1 1 1 (Since 1) true 0 0 0 0) (figures 2 1 0 Stopped false 0 0 0 0))
+    (working noneRefused (vehicle (Open 1) 1 1 2 true 1 ∷ []) (figures 1 1 1 (Since 1) true 0 0 0 0) (figures 2 1 0 Stopped false 0 0 0 0))
     -- (i) RESUME with nothing in the section accepted though a clear is owed
     ∷ row holding resume plain fresh
     -- (j) OPEN in view 3: walking pace
-    ∷ row begun (opens 1 0 3 1) (Accepted 1 7 Walking) (working 0 (opener 1 1 ∷ []) (figures 0 1 1 (Since 0) true 0 0 0 0) freshDesk)
+    ∷ row begun (opens 1 0 3 1) (Accepted 1 7 Walking) (working noneRefused (opener 1 1 ∷ []) (figures 0 1 1 (Since 0) true 0 0 0 0) freshDesk)
     -- (k) RETURN with no guest: 14
-    ∷ refused begun (returns 1 0 1) NoGuest
+    ∷ refused (Of A) begun (returns 1 0 1) NoGuest
     -- (l) own opener taken back: OPEN in that minute accepted
     ∷ row (after begun (opens 1 10 1 1 ∷ receive 1 12 1 1 ∷ [])) (opens 1 12 1 1) (Accepted 2 7 (Kmh 15))
-    (working 0 (opener 1 2 ∷ []) (figures 12 2 1 (Since 12) true 0 0 0 0) freshDesk)
+    (working noneRefused (opener 1 2 ∷ []) (figures 12 2 1 (Since 12) true 0 0 0 0) freshDesk)
     ∷ []
 
 -- ---- every row holds: the answers, and the sections after them in every figure
@@ -156,11 +166,11 @@ edges-leave = refl
 -- the sections that the rows find, in figures
 pub edges-find :
     every
-    (sameSection begun (working 0 [] freshDesk freshDesk)
-    ∷ sameSection guest (working 0 [] (figures 10 1 1 (Since 10) true 0 0 0 0) (figures 70 0 0 Stopped false 1 2 0 0))
-    ∷ sameSection holding (working 0 [] (figures 95 1 0 Stopped false 0 0 2 0) (figures 75 1 1 (Since 75) false 0 0 0 2))
+    (sameSection begun (working noneRefused [] freshDesk freshDesk)
+    ∷ sameSection guest (working noneRefused [] (figures 10 1 1 (Since 10) true 0 0 0 0) (figures 70 0 0 Stopped false 1 2 0 0))
+    ∷ sameSection holding (working noneRefused [] (figures 95 1 0 Stopped false 0 0 2 0) (figures 75 1 1 (Since 75) false 0 0 0 2))
     ∷ sameSection met
-    (working 0 (vehicle (Open 1) 1 1 2 true 1 ∷ vehicle (Open 1) 2 1 2 true 1 ∷ []) (figures 1 1 1 (Since 1) true 0 0 0 0) (figures 1 1 1 (Since 1) true 0 0 0 0))
+    (working noneRefused (vehicle (Open 1) 1 1 2 true 1 ∷ vehicle (Open 1) 2 1 2 true 1 ∷ []) (figures 1 1 1 (Since 1) true 0 0 0 0) (figures 1 1 1 (Since 1) true 0 0 0 0))
     ∷ [])
     ≡ true
 unfolding guest holding met step-computes

@@ -16,6 +16,7 @@ use Rattle.working.specs.Events.{Decoded, decode}
 use Rattle.working.specs.Reasons.{mayEnter}
 use Rattle.working.specs.Sections.{deskOf, emptied, freshDesk, insertAt, vehiclesOf, otherAt, withDesk, withVehicles}
 use Rattle.working.specs.Steps.{metAt, stepOf, redirectAt}
+use Rattle.working.specs.declared.Counts.{Counts}
 use Rattle.working.specs.declared.Desk.{Desk}
 use Rattle.working.specs.declared.Section.{Section}
 use Rattle.working.specs.declared.Station.the-variants.{A, B}
@@ -86,8 +87,8 @@ kept-change s e r g (meeting x y n i f w) =
     met : (z : Station) → movesOf z (metAt x i (vehiclesOf s)) ≡ movesOf z (vehiclesOf s)
     met z = moves-redirected z x (suc i) (redirectAt x i (vehiclesOf s)) ∙ moves-redirected z x i (vehiclesOf s)
 
-pub good-emptied : (force : Bool) (n : ℕ) → Good (emptied force n)
-good-emptied force n = record { sound = sound-emptied force n; kept = kept-emptied }
+pub good-emptied : (force : Bool) (counts : Counts) → Good (emptied force counts)
+good-emptied force counts = record { sound = sound-emptied force counts; kept = kept-emptied }
 
 pub good-step : (s : Section) (bytes : List ℕ) → Good s → Good (stepOf s bytes .section)
 good-step s bytes g = record {

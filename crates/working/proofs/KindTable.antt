@@ -5,7 +5,7 @@
 use Prim.Native.Nat.{_+_, ℕ}
 use Rattle.working.proofs.Computing.{step-computes}
 use Rattle.working.proofs.Edges.{Edge, answersTo, expectedOf, refused, row, rowsLeavingAnother}
-use Rattle.working.proofs.Literals.{begin, figures, meet, opensAs, plain, receive, resume, vehicle, withClock, withOwes, working}
+use Rattle.working.proofs.Literals.{begin, counts, figures, meet, opensAs, plain, receive, resume, vehicle, withClock, withOwes, working}
 use Rattle.working.specs.Sections.{fresh, freshDesk, numberAt, otherAt, padTo}
 use Rattle.working.specs.declared.Answer.the-variants.{Accepted}
 use Rattle.working.specs.declared.Desk.{Desk}
@@ -19,6 +19,7 @@ use Rattle.working.specs.declared.Speed.{Speed}
 use Rattle.working.specs.declared.Station.the-variants.{A, B}
 use Rattle.working.specs.declared.Station.{Station}
 use Rattle.working.specs.declared.Vehicle.{Vehicle}
+use Rattle.working.specs.declared.Whose.the-variants.{NoStation, Of}
 use mathlib.Core.Bool.{Bool, false, true}
 use mathlib.Core.List.{List, [], _++_, _∷_}
 use mathlib.Core.Path.{_≡_, refl}
@@ -33,10 +34,10 @@ abbrev backwards : List Vehicle → List Vehicle → List Vehicle
 backwards [] l = l
 backwards (v ∷ r) l = backwards r (v ∷ l)
 
--- in force, four refused, this station's desk and the other's, and the vehicles from this station's end on
+-- in force, some refused for each, this station's desk and the other's, and the vehicles from this station's end on
 abbrev seenFrom : Station → List Vehicle → Desk → Section
-seenFrom A present mine = working 4 present mine theirs
-seenFrom B present mine = working 4 (backwards present []) theirs mine
+seenFrom A present mine = working (counts 4 5 6) present mine theirs
+seenFrom B present mine = working (counts 4 5 6) (backwards present []) theirs mine
 
 -- a vehicle of this station, and one of the other, unmet
 abbrev own : Station → Movement → ℕ → ℕ → Vehicle
@@ -69,41 +70,41 @@ runningWith x asked granted = 0x6F ∷ 5 ∷ numberAt x ∷ 0 ∷ 100 ∷ 1 ∷ 
 -- OPEN, THROUGH: 9, 10, 11, 12, 13, 17, 18, 19
 abbrev openRefused : Station → List ℕ → List Edge
 openRefused x bytes =
-    refused fresh bytes NotInForce
-    ∷ refused (seenFrom x [] (figures 101 9999 12 (Since 101) true 5 8 8 8)) bytes BeforeClock
-    ∷ refused (seenFrom x [] (figures 100 9999 12 (Since 71) true 5 8 8 8)) bytes OpenerAway
-    ∷ refused (seenFrom x [] (figures 100 9999 12 (Since 71) false 5 8 1 8)) bytes HoldsLineClear
-    ∷ refused (seenFrom x [] (figures 100 9999 12 (Since 71) false 5 8 0 1)) bytes OwesLineClear
-    ∷ refused (seenFrom x [] (figures 100 9999 12 (Since 71) false 1 8 0 0)) bytes GuestHere
-    ∷ refused (seenFrom x [] (figures 100 9999 12 (Since 71) false 0 8 0 0)) bytes TwelveSent
-    ∷ refused (seenFrom x [] (figures 100 9999 11 (Since 71) false 0 8 0 0)) bytes FormsUsed
-    ∷ refused (seenFrom x [] (figures 100 9998 11 (Since 71) false 0 8 0 0)) bytes IntervalRunning
+    refused (Of x) fresh bytes NotInForce
+    ∷ refused (Of x) (seenFrom x [] (figures 101 9999 12 (Since 101) true 5 8 8 8)) bytes BeforeClock
+    ∷ refused (Of x) (seenFrom x [] (figures 100 9999 12 (Since 71) true 5 8 8 8)) bytes OpenerAway
+    ∷ refused (Of x) (seenFrom x [] (figures 100 9999 12 (Since 71) false 5 8 1 8)) bytes HoldsLineClear
+    ∷ refused (Of x) (seenFrom x [] (figures 100 9999 12 (Since 71) false 5 8 0 1)) bytes OwesLineClear
+    ∷ refused (Of x) (seenFrom x [] (figures 100 9999 12 (Since 71) false 1 8 0 0)) bytes GuestHere
+    ∷ refused (Of x) (seenFrom x [] (figures 100 9999 12 (Since 71) false 0 8 0 0)) bytes TwelveSent
+    ∷ refused (Of x) (seenFrom x [] (figures 100 9999 11 (Since 71) false 0 8 0 0)) bytes FormsUsed
+    ∷ refused (Of x) (seenFrom x [] (figures 100 9998 11 (Since 71) false 0 8 0 0)) bytes IntervalRunning
     ∷ []
 
 -- RETURN: 9, 11, 14, 16, 17, 18, 19; out set and owes above 0 are no reason
 abbrev returnRefused : Station → List Edge
 returnRefused x =
-    refused fresh (returningWith x 1 3) NotInForce
-    ∷ refused (seenFrom x [] (figures 101 9999 12 (Since 101) true 0 2 1 8)) (returningWith x 1 3) BeforeClock
-    ∷ refused (seenFrom x [] (figures 100 9999 12 (Since 71) true 0 2 1 8)) (returningWith x 1 3) HoldsLineClear
-    ∷ refused (seenFrom x [] (figures 100 9999 12 (Since 71) true 0 2 0 8)) (returningWith x 1 3) NoGuest
-    ∷ refused (seenFrom x [] (figures 100 9999 12 (Since 71) true 1 2 0 8)) (returningWith x 1 3) GrantNotAllowed
-    ∷ refused (seenFrom x [] (figures 100 9999 12 (Since 71) true 1 3 0 8)) (returningWith x 1 3) TwelveSent
-    ∷ refused (seenFrom x [] (figures 100 9999 11 (Since 71) true 1 3 0 8)) (returningWith x 1 3) FormsUsed
-    ∷ refused (seenFrom x [] (figures 100 9998 11 (Since 71) true 1 3 0 8)) (returningWith x 1 3) IntervalRunning
+    refused (Of x) fresh (returningWith x 1 3) NotInForce
+    ∷ refused (Of x) (seenFrom x [] (figures 101 9999 12 (Since 101) true 0 2 1 8)) (returningWith x 1 3) BeforeClock
+    ∷ refused (Of x) (seenFrom x [] (figures 100 9999 12 (Since 71) true 0 2 1 8)) (returningWith x 1 3) HoldsLineClear
+    ∷ refused (Of x) (seenFrom x [] (figures 100 9999 12 (Since 71) true 0 2 0 8)) (returningWith x 1 3) NoGuest
+    ∷ refused (Of x) (seenFrom x [] (figures 100 9999 12 (Since 71) true 1 2 0 8)) (returningWith x 1 3) GrantNotAllowed
+    ∷ refused (Of x) (seenFrom x [] (figures 100 9999 12 (Since 71) true 1 3 0 8)) (returningWith x 1 3) TwelveSent
+    ∷ refused (Of x) (seenFrom x [] (figures 100 9999 11 (Since 71) true 1 3 0 8)) (returningWith x 1 3) FormsUsed
+    ∷ refused (Of x) (seenFrom x [] (figures 100 9998 11 (Since 71) true 1 3 0 8)) (returningWith x 1 3) IntervalRunning
     ∷ []
 
 -- TRAIN: 9, 15, 16 for a grant above asked, 16 for a grant while holds stays above 0, 17, 18, 19; out set, owes above 0 and a guest are no reason
 abbrev trainRefused : Station → List Edge
 trainRefused x =
-    refused fresh (runningWith x 1 3) NotInForce
-    ∷ refused (seenFrom x [] (figures 101 9999 12 (Since 101) true 1 2 0 8)) (runningWith x 1 3) BeforeClock
-    ∷ refused (seenFrom x [] (figures 100 9999 12 (Since 71) true 1 2 0 8)) (runningWith x 1 3) NoLineClear
-    ∷ refused (seenFrom x [] (figures 100 9999 12 (Since 71) true 1 2 1 8)) (runningWith x 1 3) GrantNotAllowed
-    ∷ refused (seenFrom x [] (figures 100 9999 12 (Since 71) true 1 3 2 8)) (runningWith x 1 3) GrantNotAllowed
-    ∷ refused (seenFrom x [] (figures 100 9999 12 (Since 71) true 1 3 1 8)) (runningWith x 1 3) TwelveSent
-    ∷ refused (seenFrom x [] (figures 100 9999 11 (Since 71) true 1 3 1 8)) (runningWith x 1 3) FormsUsed
-    ∷ refused (seenFrom x [] (figures 100 9998 11 (Since 71) true 1 3 1 8)) (runningWith x 1 3) IntervalRunning
+    refused (Of x) fresh (runningWith x 1 3) NotInForce
+    ∷ refused (Of x) (seenFrom x [] (figures 101 9999 12 (Since 101) true 1 2 0 8)) (runningWith x 1 3) BeforeClock
+    ∷ refused (Of x) (seenFrom x [] (figures 100 9999 12 (Since 71) true 1 2 0 8)) (runningWith x 1 3) NoLineClear
+    ∷ refused (Of x) (seenFrom x [] (figures 100 9999 12 (Since 71) true 1 2 1 8)) (runningWith x 1 3) GrantNotAllowed
+    ∷ refused (Of x) (seenFrom x [] (figures 100 9999 12 (Since 71) true 1 3 2 8)) (runningWith x 1 3) GrantNotAllowed
+    ∷ refused (Of x) (seenFrom x [] (figures 100 9999 12 (Since 71) true 1 3 1 8)) (runningWith x 1 3) TwelveSent
+    ∷ refused (Of x) (seenFrom x [] (figures 100 9999 11 (Since 71) true 1 3 1 8)) (runningWith x 1 3) FormsUsed
+    ∷ refused (Of x) (seenFrom x [] (figures 100 9998 11 (Since 71) true 1 3 1 8)) (runningWith x 1 3) IntervalRunning
     ∷ []
 
 -- a desk that may receive
@@ -113,16 +114,16 @@ mine = figures 90 7 3 (Since 90) true 3 6 2 7
 -- RECEIVE: 9; 20 none, or the nearest is not the one named; 21 S's own fast one, S's own met and heading away, O's met and heading away
 abbrev receiveRefused : Station → List Edge
 receiveRefused x =
-    refused fresh (receive (numberAt x) 100 (numberAt x) 7) NotInForce
-    ∷ refused (seenFrom x [] (withClock 101 mine)) (receive (numberAt x) 100 (numberAt x) 7) BeforeClock
-    ∷ refused (seenFrom x [] mine) (receive (numberAt x) 100 (numberAt x) 7) NotNearest
-    ∷ refused (seenFrom x (own x Through 6 1 ∷ own x Through 7 1 ∷ []) mine) (receive (numberAt x) 100 (numberAt x) 7) NotNearest
-    ∷ refused (seenFrom x (own x (Train 0 0) 6 0 ∷ []) mine) (receive (numberAt x) 100 (numberAt x) 7) NotNearest
-    ∷ refused (seenFrom x (own x Through 3 1 ∷ coming x Through 1 ∷ []) mine) (receive (numberAt x) 100 (numberAt (otherAt x)) 3) NotNearest
-    ∷ refused (seenFrom x (own x (Train 0 0) 7 0 ∷ []) mine) (receive (numberAt x) 100 (numberAt x) 7) MayNotEnter
-    ∷ refused (seenFrom x (own x (Return 0 0) 7 1 ∷ []) mine) (receive (numberAt x) 100 (numberAt x) 7) MayNotEnter
-    ∷ refused (seenFrom x (vehicle Through (numberAt x) 7 (numberAt (otherAt x)) true 1 ∷ []) mine) (receive (numberAt x) 100 (numberAt x) 7) MayNotEnter
-    ∷ refused (seenFrom x (vehicle Through (numberAt (otherAt x)) 3 (numberAt (otherAt x)) true 1 ∷ []) mine)
+    refused (Of x) fresh (receive (numberAt x) 100 (numberAt x) 7) NotInForce
+    ∷ refused (Of x) (seenFrom x [] (withClock 101 mine)) (receive (numberAt x) 100 (numberAt x) 7) BeforeClock
+    ∷ refused (Of x) (seenFrom x [] mine) (receive (numberAt x) 100 (numberAt x) 7) NotNearest
+    ∷ refused (Of x) (seenFrom x (own x Through 6 1 ∷ own x Through 7 1 ∷ []) mine) (receive (numberAt x) 100 (numberAt x) 7) NotNearest
+    ∷ refused (Of x) (seenFrom x (own x (Train 0 0) 6 0 ∷ []) mine) (receive (numberAt x) 100 (numberAt x) 7) NotNearest
+    ∷ refused (Of x) (seenFrom x (own x Through 3 1 ∷ coming x Through 1 ∷ []) mine) (receive (numberAt x) 100 (numberAt (otherAt x)) 3) NotNearest
+    ∷ refused (Of x) (seenFrom x (own x (Train 0 0) 7 0 ∷ []) mine) (receive (numberAt x) 100 (numberAt x) 7) MayNotEnter
+    ∷ refused (Of x) (seenFrom x (own x (Return 0 0) 7 1 ∷ []) mine) (receive (numberAt x) 100 (numberAt x) 7) MayNotEnter
+    ∷ refused (Of x) (seenFrom x (vehicle Through (numberAt x) 7 (numberAt (otherAt x)) true 1 ∷ []) mine) (receive (numberAt x) 100 (numberAt x) 7) MayNotEnter
+    ∷ refused (Of x) (seenFrom x (vehicle Through (numberAt (otherAt x)) 3 (numberAt (otherAt x)) true 1 ∷ []) mine)
     (receive (numberAt x) 100 (numberAt (otherAt x)) 3) MayNotEnter
     ∷ []
 
@@ -196,27 +197,29 @@ abbrev present : Movement → ℕ → Bool → Movement → ℕ → Bool → Lis
 present m to met n head redirected = vehicle Through 1 2 2 false 1 ∷ vehicle m 1 1 to met 1 ∷ vehicle n 2 1 head redirected 1 ∷ []
 
 abbrev meeting : List Vehicle → Section
-meeting l = working 4 l mine theirs
+meeting l = working (counts 4 5 6) l mine theirs
 
 abbrev declared : List Edge
 declared =
-    -- BEGIN: 6; all but the count as fresh
-    refused (seenFrom A [] mine) begin AlreadyInForce
-    ∷ row (record { vehicles = padTo 24 []; len = 0; force = false; refused = 4; a = freshDesk; b = freshDesk }) begin plain (working 4 [] freshDesk freshDesk)
-    -- RESUME: 7, 8; as fresh but the count
-    ∷ refused fresh resume NotInForce
-    ∷ refused (seenFrom A (own A Through 7 1 ∷ []) mine) resume VehiclePresent
-    ∷ row (seenFrom A [] mine) resume plain (record { vehicles = padTo 24 []; len = 0; force = false; refused = 4; a = freshDesk; b = freshDesk })
+    -- BEGIN: 6; all but the counts as fresh
+    refused NoStation (seenFrom A [] mine) begin AlreadyInForce
+    ∷ row (record { vehicles = padTo 24 []; len = 0; force = false; refused = counts 4 5 6; a = freshDesk; b = freshDesk }) begin plain (working (counts 4 5 6) [] freshDesk freshDesk)
+    -- RESUME: 7, 8; as fresh but the counts
+    ∷ refused NoStation fresh resume NotInForce
+    ∷ refused NoStation (seenFrom A (own A Through 7 1 ∷ []) mine) resume VehiclePresent
+    ∷ row (seenFrom A [] mine) resume plain (record { vehicles = padTo 24 []; len = 0; force = false; refused = counts 4 5 6; a = freshDesk; b = freshDesk })
     -- MEET: 7; 22 unless the named one is present and heads to B, its neighbour towards B heads to A, and both are OPEN or THROUGH
-    ∷ refused fresh (meet 1 1 1) NotInForce
-    ∷ refused (meeting []) (meet 1 1 1) MayNotMeet
-    ∷ refused (meeting (present Through 2 false Through 1 false)) (meet 1 1 3) MayNotMeet
-    ∷ refused (meeting (present Through 2 false Through 1 false)) (meet 1 1 2) MayNotMeet
-    ∷ refused (meeting (present Through 2 false Through 1 false)) (meet 1 2 1) MayNotMeet
-    ∷ refused (meeting (present Through 1 true Through 1 false)) (meet 1 1 1) MayNotMeet
-    ∷ refused (meeting (present Through 2 false Through 2 true)) (meet 1 1 1) MayNotMeet
-    ∷ refused (meeting (vehicle (Train 0 0) 1 1 2 false 0 ∷ vehicle Through 2 1 1 false 1 ∷ [])) (meet 1 1 1) MayNotMeet
-    ∷ refused (meeting (vehicle Through 1 1 2 false 1 ∷ vehicle (Train 0 0) 2 1 1 false 0 ∷ [])) (meet 1 1 1) MayNotMeet
+    ∷ refused NoStation fresh (meet 1 1 1) NotInForce
+    ∷ refused NoStation fresh (meet 2 1 1) NotInForce
+    ∷ refused NoStation (meeting []) (meet 1 1 1) MayNotMeet
+    ∷ refused NoStation (meeting []) (meet 2 1 1) MayNotMeet
+    ∷ refused NoStation (meeting (present Through 2 false Through 1 false)) (meet 1 1 3) MayNotMeet
+    ∷ refused NoStation (meeting (present Through 2 false Through 1 false)) (meet 1 1 2) MayNotMeet
+    ∷ refused NoStation (meeting (present Through 2 false Through 1 false)) (meet 1 2 1) MayNotMeet
+    ∷ refused NoStation (meeting (present Through 1 true Through 1 false)) (meet 1 1 1) MayNotMeet
+    ∷ refused NoStation (meeting (present Through 2 false Through 2 true)) (meet 1 1 1) MayNotMeet
+    ∷ refused NoStation (meeting (vehicle (Train 0 0) 1 1 2 false 0 ∷ vehicle Through 2 1 1 false 1 ∷ [])) (meet 1 1 1) MayNotMeet
+    ∷ refused NoStation (meeting (vehicle Through 1 1 2 false 1 ∷ vehicle (Train 0 0) 2 1 1 false 0 ∷ [])) (meet 1 1 1) MayNotMeet
     -- both then head to the station given and are met; no clock moves, and the third stays as it is
     ∷ row (meeting (present (Open 8) 2 false Through 1 false)) (meet 1 1 1) plain (meeting (present (Open 8) 1 true Through 1 true))
     ∷ row (meeting (present Through 2 true (Open 8) 1 true)) (meet 2 1 1) plain (meeting (present Through 2 true (Open 8) 2 true))

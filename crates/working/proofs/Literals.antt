@@ -6,6 +6,7 @@ use Rattle.working.specs.Sections.{freshDesk, padTo, withClears, withEnt
 use Rattle.working.specs.WellMade.{deskFigures, numbersOf}
 use Rattle.working.specs.declared.Answer.the-variants.{Accepted}
 use Rattle.working.specs.declared.Answer.{Answer}
+use Rattle.working.specs.declared.Counts.{Counts}
 use Rattle.working.specs.declared.Desk.{Desk}
 use Rattle.working.specs.declared.Interval.{Interval}
 use Rattle.working.specs.declared.Movement.the-variants.{Open, Return, Through, Train}
@@ -88,9 +89,12 @@ withHolds n d = withClears (record { asked = d .clears .asked; holds = n; owes =
 abbrev pub withOwes : ℕ → Desk → Desk
 withOwes n d = withClears (record { asked = d .clears .asked; holds = d .clears .holds; owes = n }) d
 
--- ---- a section in force: so many refused, these vehicles from A to B, these desks
+-- ---- so many refused for A, for B, and of no station; and a section in force: these refused, these vehicles from A to B, these desks
 
-abbrev pub working : ℕ → List Vehicle → Desk → Desk → Section
+abbrev pub counts : ℕ → ℕ → ℕ → Counts
+counts a b none = record { a = a; b = b; none = none }
+
+abbrev pub working : Counts → List Vehicle → Desk → Desk → Section
 working refused present a b = record { vehicles = padTo 24 present; len = length present; force = true; refused = refused; a = a; b = b }
 
 -- ---- every figure of a section in one row of numbers, so that two sections can be compared by computation
@@ -111,7 +115,8 @@ vehicleFigures [] = []
 vehicleFigures (v ∷ l) = movementFigures (v .movement) ++ v .sender ∷ v .form ∷ v .heading ∷ bit (v .met) ∷ v .class ∷ vehicleFigures l
 
 abbrev pub figuresOf : Section → List ℕ
-figuresOf s = s .len ∷ bit (s .force) ∷ s .refused ∷ numbersOf (deskFigures (s .a)) ++ numbersOf (deskFigures (s .b)) ++ vehicleFigures (s .vehicles)
+figuresOf s =
+    s .len ∷ bit (s .force) ∷ s .refused .a ∷ s .refused .b ∷ s .refused .none ∷ numbersOf (deskFigures (s .a)) ++ numbersOf (deskFigures (s .b)) ++ vehicleFigures (s .vehicles)
 
 abbrev sameFigures : List ℕ → List ℕ → Bool
 sameFigures [] [] = true

@@ -5,9 +5,9 @@
 -- Assumes nothing.
 use Prim.Native.Nat.{suc, ℕ}
 use Rattle.working.proofs.Computing.{step-computes}
-use Rattle.working.proofs.Literals.{figures, vehicle, withAsked, withClock, withHolds, withLast, withOwes, withSent, working}
+use Rattle.working.proofs.Literals.{counts, figures, vehicle, withAsked, withClock, withHolds, withLast, withOwes, withSent, working}
 use Rattle.working.specs.Refusals.{numberOf}
-use Rattle.working.specs.Sections.{freshDesk, numberAt, otherAt, padTo, withGuest, withInterval, withOut}
+use Rattle.working.specs.Sections.{freshDesk, noneRefused, numberAt, otherAt, padTo, withGuest, withInterval, withOut}
 use Rattle.working.specs.Steps.{stepOf}
 use Rattle.working.specs.declared.Answer.the-variants.{Accepted, Refused}
 use Rattle.working.specs.declared.Answer.{Answer}
@@ -33,13 +33,13 @@ used = figures 40 5 2 (Since 40) false 0 0 0 0
 
 -- in force, with these vehicles and this desk at station x; the other's desk is fresh
 abbrev inForce : Station → List Vehicle → Desk → Section
-inForce A present d = working 0 present d freshDesk
-inForce B present d = working 0 present freshDesk d
+inForce A present d = working noneRefused present d freshDesk
+inForce B present d = working noneRefused present freshDesk d
 
 -- not in force, with this desk at station x
 abbrev idle : Station → Desk → Section
-idle A d = record { vehicles = padTo 24 []; len = 0; force = false; refused = 0; a = d; b = freshDesk }
-idle B d = record { vehicles = padTo 24 []; len = 0; force = false; refused = 0; a = freshDesk; b = d }
+idle A d = record { vehicles = padTo 24 []; len = 0; force = false; refused = noneRefused; a = d; b = freshDesk }
+idle B d = record { vehicles = padTo 24 []; len = 0; force = false; refused = noneRefused; a = freshDesk; b = d }
 
 -- a vehicle of station x under form number 5, unmet, heading to the other station
 abbrev away : Station → Movement → ℕ → Vehicle
@@ -54,7 +54,7 @@ withOne x v = inForce x (v ∷ []) used
 
 -- in force, with nothing present and this in one of the 24 unused places
 abbrev unusedHolds : ℕ → Vehicle → Section
-unusedHolds place v = record { vehicles = set (padTo 24 []) place v; len = 0; force = true; refused = 0; a = freshDesk; b = freshDesk }
+unusedHolds place v = record { vehicles = set (padTo 24 []) place v; len = 0; force = true; refused = noneRefused; a = freshDesk; b = freshDesk }
 
 -- A1 to A12 and B1 to B12, from A to B
 abbrev fullSection : List Vehicle
@@ -67,7 +67,7 @@ twelve = figures 330 12 12 (Since 330) false 0 0 0 0
 
 -- so many vehicles counted where 24 stand
 abbrev counted : ℕ → Section
-counted n = record { vehicles = fullSection; len = n; force = true; refused = 0; a = twelve; b = twelve }
+counted n = record { vehicles = fullSection; len = n; force = true; refused = noneRefused; a = twelve; b = twelve }
 
 -- ---- ill made
 
@@ -148,11 +148,11 @@ illMade =
     -- "up to 24 vehicles"
     counted 25
     -- "A's vehicles all stand nearer A than B's"
-    ∷ working 0 (engine B 5 ∷ engine A 5 ∷ []) used used
-    ∷ working 0 (engine A 5 ∷ engine B 5 ∷ engine A 4 ∷ []) used used
+    ∷ working noneRefused (engine B 5 ∷ engine A 5 ∷ []) used used
+    ∷ working noneRefused (engine A 5 ∷ engine B 5 ∷ engine A 4 ∷ []) used used
     -- a sender is a station
-    ∷ working 0 (vehicle Through 0 5 2 false 1 ∷ []) used used
-    ∷ working 0 (vehicle Through 3 5 2 false 1 ∷ []) used used
+    ∷ working noneRefused (vehicle Through 0 5 2 false 1 ∷ []) used used
+    ∷ working noneRefused (vehicle Through 3 5 2 false 1 ∷ []) used used
     -- an unused place behind those present
     ∷ counted 23
     ∷ illUnused 0 ++ illUnused 23 ++ illAt A ++ illAt B
@@ -191,15 +191,15 @@ atLimitsOf x =
 
 abbrev atLimits : List Section
 atLimits =
-    -- "not in force, all but the count is as fresh"; the count at both ends
+    -- "not in force, all but the counts is as fresh"; the counts at both ends
     idle A freshDesk
-    ∷ record { vehicles = padTo 24 []; len = 0; force = false; refused = 4294967295; a = freshDesk; b = freshDesk }
-    ∷ working 0 [] freshDesk freshDesk
-    ∷ working 4294967295 [] freshDesk freshDesk
+    ∷ record { vehicles = padTo 24 []; len = 0; force = false; refused = counts 4294967295 4294967295 4294967295; a = freshDesk; b = freshDesk }
+    ∷ working noneRefused [] freshDesk freshDesk
+    ∷ working (counts 4294967295 4294967295 4294967295) [] freshDesk freshDesk
     -- "up to 24 vehicles in order from A to B", twelve of each
     ∷ counted 24
     -- form numbers differ among one sender's vehicles only
-    ∷ working 0 (engine A 5 ∷ engine B 5 ∷ []) used used
+    ∷ working noneRefused (engine A 5 ∷ engine B 5 ∷ []) used used
     ∷ atLimitsOf A ++ atLimitsOf B
 
 -- ---- the tables hold

@@ -3,7 +3,7 @@
 use Prim.Native.Nat.{ℕ}
 use Rattle.working.proofs.Computing.{reading-computes, step-computes, turns-compute}
 use Rattle.working.proofs.Edges.{after, begun, guest, holding}
-use Rattle.working.proofs.Literals.{begin, meet, opens, opensAs, plain, receive, resume, returns, returnsAsking, train, vehicle}
+use Rattle.working.proofs.Literals.{begin, counts, meet, opens, opensAs, plain, receive, resume, returns, returnsAsking, train, vehicle}
 use Rattle.working.specs.Demand3.{vehicleAt}
 use Rattle.working.specs.Entries.{readAt, writtenAt}
 use Rattle.working.specs.Sections.{countRefusal, emptied, fresh, freshDesk, numberAt, padTo}
@@ -17,18 +17,23 @@ use Rattle.working.specs.declared.Refusal.the-variants.{BufferTooShort, 
 use Rattle.working.specs.declared.Section.{Section}
 use Rattle.working.specs.declared.Station.the-variants.{A, B}
 use Rattle.working.specs.declared.Station.{Station}
+use Rattle.working.specs.declared.Whose.the-variants.{NoStation}
 use Rattle.working.specs.declared.Written.the-variants as written
 use mathlib.Core.Bool.{false, true}
-use mathlib.Core.List.{[], _∷_}
+use mathlib.Core.List.{List, [], _∷_}
 use mathlib.Core.Path.{_≡_, refl}
 
 -- a section that is not well made: a vehicle counted in an unused place
 abbrev ill : Section
-ill = record { vehicles = padTo 24 []; len = 1; force = true; refused = 7; a = freshDesk; b = freshDesk }
+ill = record { vehicles = padTo 24 []; len = 1; force = true; refused = counts 7 8 9; a = freshDesk; b = freshDesk }
 
--- a well-made section with so many refused
-abbrev refusing : ℕ → Section
-refusing count = record { vehicles = padTo 24 []; len = 0; force = false; refused = count; a = freshDesk; b = freshDesk }
+-- a section not in force with so many refused for A, for B, and of no station
+abbrev refusing : ℕ → ℕ → ℕ → Section
+refusing a b none = emptied false (counts a b none)
+
+-- refused of no station, and for a station: no bytes, and an OPEN where the working is not in force
+abbrev opening : Station → List ℕ
+opening x = opens (numberAt x) 10 1 2
 
 -- A1 and B1 opened, and then met
 abbrev opened : Section
@@ -49,24 +54,46 @@ abbrev beginning : Entry
 beginning = record { map = 1; kind = 1; station = 0; time = 0; view = 0; class = 0; asked = 0; granted = 0; sender = 0; number = 0 }
 
 -- "A refusal adds 1 to the count and alters nothing else"
-refusal-counts : stepOf begun begin .section ≡ countRefusal begun
+refusal-counts : stepOf begun begin .section ≡ countRefusal NoStation begun
 unfolding step-computes
 refusal-counts = refl
 
--- "a 32-bit count of refused entries that stops at its largest value": from 4,294,967,294 to 4,294,967,295, and it stays there
-count-stops : (after (refusing 4294967294) ([] ∷ []) ≡ refusing 4294967295)
-    × (after (refusing 4294967294) ([] ∷ [] ∷ []) ≡ refusing 4294967295)
-    × (after (refusing 4294967295) ([] ∷ []) ≡ refusing 4294967295)
+-- "Each stops at its own largest value.": from 4,294,967,294 to 4,294,967,295, and it stays there
+count-stops : (after (refusing 4294967294 5 7) (opening A ∷ []) ≡ refusing 4294967295 5 7)
+    × (after (refusing 4294967295 5 7) (opening A ∷ []) ≡ refusing 4294967295 5 7)
+    × (after (refusing 5 4294967294 7) (opening B ∷ []) ≡ refusing 5 4294967295 7)
+    × (after (refusing 5 4294967295 7) (opening B ∷ []) ≡ refusing 5 4294967295 7)
+    × (after (refusing 5 7 4294967294) ([] ∷ []) ≡ refusing 5 7 4294967295)
+    × (after (refusing 5 7 4294967295) ([] ∷ []) ≡ refusing 5 7 4294967295)
 unfolding step-computes
-count-stops = (refl, refl, refl)
+count-stops = (refl, refl, refl, refl, refl, refl)
+
+-- and at no other's: two have stopped, and the third goes on
+others-go-on : (after (refusing 5 4294967295 4294967295) (opening A ∷ []) ≡ refusing 6 4294967295 4294967295)
+    × (after (refusing 4294967295 5 4294967295) (opening B ∷ []) ≡ refusing 4294967295 6 4294967295)
+    × (after (refusing 4294967295 4294967295 5) ([] ∷ []) ≡ refusing 4294967295 4294967295 6)
+unfolding step-computes
+others-go-on = (refl, refl, refl)
+
+-- "those of no station (refusals 1 to 4, BEGIN, RESUME and MEET)": a cut OPEN of A, kind 9 at A, an OPEN of A with one bit too many, one that asks for 9, a MEET that
+-- names A, BEGIN in force, and RESUME out of force
+of-no-station : (after begun ((0x3F ∷ 2 ∷ 1 ∷ []) ∷ []) ≡ emptied true (counts 0 0 1))
+    × (after begun ((0x07 ∷ 9 ∷ 1 ∷ 0 ∷ 10 ∷ []) ∷ []) ≡ emptied true (counts 0 0 1))
+    × (after begun ((0x7F ∷ 2 ∷ 1 ∷ 0 ∷ 10 ∷ 1 ∷ 1 ∷ 2 ∷ 1 ∷ []) ∷ []) ≡ emptied true (counts 0 0 1))
+    × (after begun (opens 1 10 1 9 ∷ []) ≡ emptied true (counts 0 0 1))
+    × (after begun (meet 1 1 1 ∷ []) ≡ emptied true (counts 0 0 1))
+    × (after begun (begin ∷ []) ≡ emptied true (counts 0 0 1))
+    × (after fresh (resume ∷ []) ≡ emptied false (counts 0 0 1))
+unfolding step-computes
+of-no-station = (refl, refl, refl, refl, refl, refl, refl)
 
 -- "5 is tested first", also before no bytes, and alters nothing
 ill-made-first : (stepOf ill [] .answer ≡ Refused IllMade) × (stepOf ill [] .section ≡ ill)
 unfolding step-computes
 ill-made-first = (refl, refl)
 
--- "BEGIN: in force; all but the count as fresh. RESUME: as fresh but the count."
-begins-and-resumes : (after fresh ([] ∷ begin ∷ []) ≡ emptied true 1) × (after fresh ([] ∷ begin ∷ resume ∷ []) ≡ emptied false 1)
+-- "BEGIN: in force; all but the count as fresh. RESUME: as fresh but the count.": each of the three
+begins-and-resumes : (after (refusing 5 6 7) (begin ∷ []) ≡ emptied true (counts 5 6 7)) × (after (refusing 5 6 7) (begin ∷ resume ∷ []) ≡ emptied false (counts 5 6 7))
 unfolding step-computes
 begins-and-resumes = (refl, refl)
 

@@ -2,6 +2,7 @@
 -- Assumes nothing.
 use Prim.Native.Nat.{ℕ}
 use Rattle.working.proofs.Computing.{turns-compute}
+use Rattle.working.proofs.Literals.{counts}
 use Rattle.working.specs.Sections.{fresh}
 use Rattle.working.specs.Turns.{answersIn, sectionAfter, turnsOf}
 use Rattle.working.specs.declared.Answer.the-variants.{Accepted, Refused}
@@ -39,6 +40,6 @@ the-session = refl
 last : Section
 last = sectionAfter fresh (turnsOf fresh session)
 
-the-end : (last .len ≡ 2) × (last .a .clears .holds ≡ 0) × (last .a .clears .owes ≡ 0) × (last .b .clears .holds ≡ 0) × (last .b .clears .owes ≡ 2)
+the-end : (last .refused ≡ counts 1 0 0) × (last .len ≡ 2) × (last .a .clears .holds ≡ 0) × (last .a .clears .owes ≡ 0) × (last .b .clears .holds ≡ 0) × (last .b .clears .owes ≡ 2)
 unfolding last turns-compute
-the-end = (refl, refl, refl, refl, refl)
+the-end = (refl, refl, refl, refl, refl, refl)

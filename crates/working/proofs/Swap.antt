@@ -13,7 +13,7 @@ use Rattle.working.specs.Acts as acts
 use Rattle.working.specs.Acts.{Act}
 use Rattle.working.specs.Demand3.{ReceivesIt, isDeparture, isSome}
 use Rattle.working.specs.Effects.{Arrive, Depart, Plan, Refuse}
-use Rattle.working.specs.Events.{At, Says, decode}
+use Rattle.working.specs.Events.{At, Decoded, Says, decode}
 use Rattle.working.specs.Reasons.{isNamed}
 use Rattle.working.specs.Sections.{deskOf, insertAt, vehiclesOf, nearestAt, numberAt, removeAt, withDesk, withVehicles}
 use Rattle.working.specs.Steps.{doneBy, entered, onDecoded, planOf, stepOf}
@@ -107,15 +107,15 @@ Accepts p = isAccepted (answerBy p) ≡ true
 abbrev sectionBy : Section → Station → Plan → Section
 sectionBy s x p = withDesk (withVehicles s (vehiclesBy x p (vehiclesOf s))) x (deskBy p (deskOf s x))
 
-done-answer : (s : Section) (x : Station) (p : Plan) → doneBy s x p .answer ≡ answerBy p
-done-answer s x (Refuse r) = refl
-done-answer s x (Depart p) = refl
-done-answer s x (Arrive d) = refl
+done-answer : (s : Section) (e : Decoded) (x : Station) (p : Plan) → doneBy s e x p .answer ≡ answerBy p
+done-answer s e x (Refuse r) = refl
+done-answer s e x (Depart p) = refl
+done-answer s e x (Arrive d) = refl
 
-done-section : (s : Section) (x : Station) (p : Plan) → Accepts p → doneBy s x p .section ≡ sectionBy s x p
-done-section s x (Refuse r) ok = absurd (false≢true ok)
-done-section s x (Depart p) ok = refl
-done-section s x (Arrive d) ok = refl
+done-section : (s : Section) (e : Decoded) (x : Station) (p : Plan) → Accepts p → doneBy s e x p .section ≡ sectionBy s x p
+done-section s e x (Refuse r) ok = absurd (false≢true ok)
+done-section s e x (Depart p) ok = refl
+done-section s e x (Arrive d) ok = refl
 
 -- the other end is as it was
 near-by : {x y : Station} → Opposite x y → (p : Plan) (l : List Vehicle) → takes p + 1 ≤ length l → nearestAt y (vehiclesBy x p l) ≡ nearestAt y l
@@ -267,10 +267,11 @@ acted : (s : Section) (b : List ℕ) (x : Station) (t : ℕ) (act : Act) (p : Pl
     → p ≡ planAt s x t act → Acted s b x p
 unfolding entered
 acted s b x t act p g says is =
-    let did : stepOf s b ≡ doneBy s x p = step-is s b (g .well) ∙ ap (onDecoded s) says ∙ ap (doneBy s x) (sym is) in
+    let e = Says (At x t act) in
+    let did : stepOf s b ≡ doneBy s e x p = step-is s b (g .well) ∙ ap (onDecoded s) says ∙ ap (doneBy s e x) (sym is) in
     record {
-      answers = ap (λ (r : Stepped). r .answer) did ∙ done-answer s x p;
-      leaves = λ ok. ap (λ (r : Stepped). r .section) did ∙ done-section s x p ok;
+      answers = ap (λ (r : Stepped). r .answer) did ∙ done-answer s e x p;
+      leaves = λ ok. ap (λ (r : Stepped). r .section) did ∙ done-section s e x p ok;
     }
 
 pub swapped : (s : Section) (b c : List ℕ) (x y : Station) (t u : ℕ) (act bct : Act) → Opposite x y → Sound s → decode b ≡ Says (At x t act)

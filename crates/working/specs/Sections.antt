@@ -1,6 +1,7 @@
 -- Document 01, "The section": the two stations, the vehicles in order from A to B, the desks, and the fresh section.
 use Prim.Native.Nat.{_+_, _-_, suc, zero, ℕ}
 use Rattle.working.specs.declared.Clears.{Clears}
+use Rattle.working.specs.declared.Counts.{Counts}
 use Rattle.working.specs.declared.Desk.{Desk}
 use Rattle.working.specs.declared.Interval.the-variants.{Stopped}
 use Rattle.working.specs.declared.Interval.{Interval}
@@ -9,7 +10,9 @@ use Rattle.working.specs.declared.Section.{Section}
 use Rattle.working.specs.declared.Station.the-variants.{A, B}
 use Rattle.working.specs.declared.Station.{Station}
 use Rattle.working.specs.declared.Vehicle.{Vehicle}
-use lib.Dec.{ltb}
+use Rattle.working.specs.declared.Whose.the-variants.{NoStation, Of}
+use Rattle.working.specs.declared.Whose.{Whose}
+use lib.Dec.{eqb, ltb}
 use lib.ListN.{drop, getD, length, take}
 use mathlib.Core.Bool.{Bool, cond, false}
 use mathlib.Core.List.{List, [], _++_, _∷_}
@@ -86,9 +89,38 @@ abbrev pub withDesk : Section → Station → Desk → Section
 withDesk s A d = record { vehicles = s .vehicles; len = s .len; force = s .force; refused = s .refused; a = d; b = s .b }
 withDesk s B d = record { vehicles = s .vehicles; len = s .len; force = s .force; refused = s .refused; a = s .a; b = d }
 
--- "a 32-bit count of refused entries that stops at its largest value"
-abbrev pub countRefusal : Section → Section
-countRefusal s = record { vehicles = s .vehicles; len = s .len; force = s .force; refused = cond (ltb (s .refused) 4294967295) (s .refused + 1) (s .refused); a = s .a; b = s .b }
+-- ---- the counts of refused entries
+
+-- "Keep three counts: entries refused for A, for B, and those of no station": one of them
+abbrev pub countOf : Counts → Whose → ℕ
+countOf c (Of A) = c .a
+countOf c (Of B) = c .b
+countOf c NoStation = c .none
+
+abbrev pub total : Counts → ℕ
+total c = c .a + c .b + c .none
+
+-- two are the same, told by the place of their count
+abbrev pub placeOf : Whose → ℕ
+placeOf (Of A) = 0
+placeOf (Of B) = 1
+placeOf NoStation = 2
+
+abbrev pub isSame : Whose → Whose → Bool
+isSame whose other = eqb (placeOf whose) (placeOf other)
+
+-- "Each stops at its own largest value."
+abbrev pub oneMore : ℕ → ℕ
+oneMore n = cond (ltb n 4294967295) (n + 1) n
+
+abbrev pub oneMoreOf : Whose → Counts → Counts
+oneMoreOf (Of A) c = record { a = oneMore (c .a); b = c .b; none = c .none }
+oneMoreOf (Of B) c = record { a = c .a; b = oneMore (c .b); none = c .none }
+oneMoreOf NoStation c = record { a = c .a; b = c .b; none = oneMore (c .none) }
+
+-- the section with one more entry refused
+abbrev pub countRefusal : Whose → Section → Section
+countRefusal whose s = record { vehicles = s .vehicles; len = s .len; force = s .force; refused = oneMoreOf whose (s .refused); a = s .a; b = s .b }
 
 -- ---- the fresh section
 
@@ -98,10 +130,13 @@ noClears = record { asked = 0; holds = 0; owes = 0 }
 abbrev pub freshDesk : Desk
 freshDesk = record { clock = 0; last = 0; sent = 0; interval = Stopped; out = false; guest = 0; clears = noClears }
 
--- all but the count as fresh, in force or not
-abbrev pub emptied : Bool → ℕ → Section
-emptied force count = record { vehicles = padTo 24 []; len = 0; force = force; refused = count; a = freshDesk; b = freshDesk }
+abbrev pub noneRefused : Counts
+noneRefused = record { a = 0; b = 0; none = 0 }
+
+-- all but the counts as fresh, in force or not
+abbrev pub emptied : Bool → Counts → Section
+emptied force counts = record { vehicles = padTo 24 []; len = 0; force = force; refused = counts; a = freshDesk; b = freshDesk }
 
 -- "The fresh section is not in force and all else is zero or none."
 abbrev pub fresh : Section
-fresh = emptied false 0
+fresh = emptied false noneRefused

@@ -18,6 +18,8 @@ use Rattle.working.specs.declared.Stepped.{Stepped}
 use Rattle.working.specs.declared.Vehicle.{Vehicle}
 use Rattle.working.specs.declared.Verdict.the-variants.{Allowed, Refused}
 use Rattle.working.specs.declared.Verdict.{Verdict}
+use Rattle.working.specs.declared.Whose.the-variants.{NoStation, Of}
+use Rattle.working.specs.declared.Whose.{Whose}
 use mathlib.Core.Bool.{Bool, false, true}
 use mathlib.Core.List.{List, [], _∷_}
 
@@ -31,29 +33,39 @@ unlessRefused Allowed plan = plan
 abbrev pub planOf : Act → Station → Bool → Desk → ℕ → Vehicle → Plan
 planOf act x force d time v = unlessRefused (firstOf (testsOf act x force d time v)) (effectOf act x d time v)
 
--- ---- and acts at its own end
+-- ---- whose a refused step is
 
--- "A refusal adds 1 to the count and alters nothing else"
-abbrev pub refused : Section → Refusal → Stepped
-refused s why = record { answer = answer.Refused why; section = countRefusal s }
+-- "those of no station (refusals 1 to 4, BEGIN, RESUME and MEET)"; every other is its entry's station's
+abbrev pub whoseIs : Decoded → Whose
+whoseIs (Bad why) = NoStation
+whoseIs (Says Begin) = NoStation
+whoseIs (Says (At x time act)) = Of x
+whoseIs (Says (Meet x sender form)) = NoStation
+whoseIs (Says Resume) = NoStation
+
+-- "A refusal adds 1 to the count and alters nothing else": to the count of those whose the step is
+abbrev pub refused : Section → Decoded → Refusal → Stepped
+refused s step why = record { answer = answer.Refused why; section = countRefusal (whoseIs step) s }
+
+-- ---- a station acts at its own end
 
 -- accepted with no form, no forms and no speed
 abbrev pub accepted : Section → Stepped
 accepted s = record { answer = answer.Accepted 0 0 NoSpeed; section = s }
 
-abbrev pub doneBy : Section → Station → Plan → Stepped
-doneBy s x (Refuse why) = refused s why
-doneBy s x (Depart p) = record {
+abbrev pub doneBy : Section → Decoded → Station → Plan → Stepped
+doneBy s step x (Refuse why) = refused s step why
+doneBy s step x (Depart p) = record {
   answer = answer.Accepted (p .vehicle .form) (p .order .forms) (p .order .speed);
   section = withDesk (withVehicles s (insertAt x (p .vehicle) (vehiclesOf s))) x (p .desk);
 }
-doneBy s x (Arrive d) = accepted (withDesk (withVehicles s (removeAt x (vehiclesOf s))) x d)
+doneBy s step x (Arrive d) = accepted (withDesk (withVehicles s (removeAt x (vehiclesOf s))) x d)
 
 -- ---- BEGIN, MEET and RESUME stand apart
 
-abbrev pub settled : Section → Verdict → Section → Stepped
-settled s (Refused why) t = refused s why
-settled s Allowed t = accepted t
+abbrev pub settled : Section → Decoded → Verdict → Section → Stepped
+settled s step (Refused why) t = refused s step why
+settled s step Allowed t = accepted t
 
 -- "both then head to the station given and are met": one of them, and the one at place i
 abbrev pub redirected : Station → Vehicle → Vehicle
@@ -71,14 +83,15 @@ metAt x i l = redirectAt x (suc i) (redirectAt x i l)
 -- ---- the step
 
 unfoldable pub entered : Section → Event → Stepped
-entered s Begin = settled s (firstOf (beginTests (s .force))) (emptied true (s .refused))
-entered s (At x time act) = doneBy s x (planOf act x (s .force) (deskOf s x) time (nearestAt x (vehiclesOf s)))
+entered s Begin = settled s (Says Begin) (firstOf (beginTests (s .force))) (emptied true (s .refused))
+entered s (At x time act) = doneBy s (Says (At x time act)) x (planOf act x (s .force) (deskOf s x) time (nearestAt x (vehiclesOf s)))
 entered s (Meet x sender form) =
-    settled s (firstOf (meetTests (s .force) (vehiclesOf s) (findOf sender form (vehiclesOf s)))) (withVehicles s (metAt x (findOf sender form (vehiclesOf s)) (vehiclesOf s)))
-entered s Resume = settled s (firstOf (resumeTests (s .force) (s .len))) (emptied false (s .refused))
+    settled s (Says (Meet x sender form)) (firstOf (meetTests (s .force) (vehiclesOf s) (findOf sender form (vehiclesOf s))))
+    (withVehicles s (metAt x (findOf sender form (vehiclesOf s)) (vehiclesOf s)))
+entered s Resume = settled s (Says Resume) (firstOf (resumeTests (s .force) (s .len))) (emptied false (s .refused))
 
 abbrev pub onDecoded : Section → Decoded → Stepped
-onDecoded s (Bad why) = refused s why
+onDecoded s (Bad why) = refused s (Bad why) why
 onDecoded s (Says event) = entered s event
 
 -- "5 is tested first, then rising numbers"; it alters nothing

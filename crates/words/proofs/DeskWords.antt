@@ -5,9 +5,9 @@ use Prim.Native.Nat.{_%_, _+_, _-_, _<_, _≤_, suc, zero, ℕ}
 use Rattle.words.proofs.Packing.{one-back}
 use Rattle.words.proofs.Written.{as-written, first-words, set-past, written}
 use Rattle.words.specs.Stores.{DeskPut}
-use Rattle.words.specs.Words.{Becomes, DeskBecomes, sectionIn, startIn, wordCount, wordsFrom, wordsOf}
+use Rattle.words.specs.Words.{Becomes, DeskBecomes, countIn, countPlace, sectionIn, startIn, wordCount, wordsFrom, wordsOf}
 use Rattle.words.specs.Words.{deskFrom, deskIn, deskRead, deskWords, deskWordsIn, intervalIn}
-use Rattle.working.specs.Sections.{countRefusal, deskOf, withDesk, withFigures}
+use Rattle.working.specs.Sections.{countOf, countRefusal, deskOf, oneMore, withDesk, withFigures}
 use Rattle.working.specs.WellMade.{deskLength, intervalNumber}
 use Rattle.working.specs.declared.Clears.{Clears}
 use Rattle.working.specs.declared.Desk.{Desk}
@@ -16,10 +16,10 @@ use Rattle.working.specs.declared.Interval.{Interval}
 use Rattle.working.specs.declared.Section.{Section}
 use Rattle.working.specs.declared.Station.the-variants.{A, B}
 use Rattle.working.specs.declared.Station.{Station}
-use lib.Dec.{ltb}
+use Rattle.working.specs.declared.Whose.the-variants.{NoStation, Of}
+use Rattle.working.specs.declared.Whose.{Whose}
 use lib.ListN.{drop, drop-of-length-le, getD, length, length-drop, set, take, take-append-drop}
 use lib.Seq.{drop-cons, length-take-le, take-all, take-suc}
-use mathlib.Core.Bool.{cond}
 use mathlib.Core.List.{List, [], _++_, _∷_, append-assoc, append-nil}
 use mathlib.Core.Path.{_∙_, _≡_, ap, ap₂, refl, sym}
 use native.Mathlib.Nat.{mod-eq-of-lt}
@@ -140,16 +140,40 @@ desk-becomes {x} {w} {after} {put} f p read words =
           parts ∙ ap₂ (λ u t. withWords u x t) e put-own ∙ own-with s (startIn w) (f (deskOf s x)) x;
     }
 
--- ---- the count of refusals
+-- ---- the counts of refusals
 
-pub count-becomes : (w : List ℕ) {count n : ℕ} → length w ≡ wordCount → n < 4294967296 → count ≡ sectionIn w .refused
-    → n ≡ cond (ltb count 4294967295) (count + 1) count → Becomes w (set w 2 n) (countRefusal (sectionIn w)) (startIn w)
-unfolding sectionIn wordsOf
-count-becomes w {count} {n} long fits before after =
-    let shown = ap (λ u. set u 2 n) (as-written w long) in
-    let e : n ≡ countRefusal (sectionIn w) .refused = after ∙ ap (λ k. cond (ltb k 4294967295) (k + 1) k) before in
+-- one of them is put, and the two others are as they were
+put-count : (whose : Whose) (w : List ℕ) (n : ℕ) → n < 4294967296 → n ≡ oneMore (countIn w whose)
+    → sectionIn (set (written w) (countPlace whose) n) ≡ countRefusal whose (sectionIn w)
+unfolding sectionIn
+put-count (Of A) w n fits e = rw (mod-eq-of-lt fits, e)
+put-count (Of B) w n fits e = rw (mod-eq-of-lt fits, e)
+put-count NoStation w n fits e = rw (mod-eq-of-lt fits, e)
+
+own-count : (whose : Whose) (s : Section) (start : ℕ) → set (wordsOf s start) (countPlace whose) (oneMore (countOf (s .refused) whose)) ≡ wordsOf (countRefusal whose s) start
+unfolding wordsOf
+own-count (Of A) s start = refl
+own-count (Of B) s start = refl
+own-count NoStation s start = refl
+
+start-count : (whose : Whose) (w : List ℕ) (n : ℕ) → startIn (set (written w) (countPlace whose) n) ≡ startIn w
+start-count (Of A) w n = refl
+start-count (Of B) w n = refl
+start-count NoStation w n = refl
+
+pub count-at : (whose : Whose) (w : List ℕ) → countOf (sectionIn w .refused) whose ≡ countIn w whose
+unfolding sectionIn
+count-at (Of A) w = refl
+count-at (Of B) w = refl
+count-at NoStation w = refl
+
+pub count-becomes : (whose : Whose) (w : List ℕ) {n : ℕ} → length w ≡ wordCount → n < 4294967296 → n ≡ oneMore (countIn w whose)
+    → Becomes w (set w (countPlace whose) n) (countRefusal whose (sectionIn w)) (startIn w)
+count-becomes whose w {n} long fits e =
+    let shown = ap (λ u. set u (countPlace whose) n) (as-written w long) in
     record {
-      section = ap sectionIn shown ∙ rw (mod-eq-of-lt fits, e);
-      start = ap startIn shown;
-      own = λ few h. ap (λ u. set u 2 n) h ∙ ap (λ k. set (wordsOf (sectionIn w) (startIn w)) 2 k) e;
+      section = ap sectionIn shown ∙ put-count whose w n fits e;
+      start = ap startIn shown ∙ start-count whose w n;
+      own = λ few h.
+          ap₂ (λ u k. set u (countPlace whose) k) h (e ∙ ap oneMore (sym (count-at whose w))) ∙ own-count whose (sectionIn w) (startIn w);
     }

@@ -7,7 +7,7 @@ use Rattle.words.proofs.Packing.{vehicle-back}
 use Rattle.words.proofs.Round.{Moves, enters-moves, leaves-moves, remove-length, meets-moves}
 use Rattle.words.proofs.Slots.{slot-second}
 use Rattle.words.specs.Stores.{StartMoved, VehiclePut, endSlot, inSlot, startWord}
-use Rattle.words.specs.Words.{Becomes, VehiclesBecome, Own, vehiclesIn, oneBack, sectionIn, startIn, startOn, wordCount, wordsOf}
+use Rattle.words.specs.Words.{Becomes, VehiclesBecome, Own, vehiclesIn, oneBack, sectionIn, startIn, startOn, startPlace, wordCount, wordsOf}
 use Rattle.words.specs.Words.{bySlot, firstWord, movementIn, ringFrom, ringIn, secondWord, slots, vehicleAt}
 use Rattle.working.proofs.Vehicles.{insert-length}
 use Rattle.working.proofs.Made.{vehicles-with}
@@ -27,8 +27,8 @@ use native.Mathlib.Omega.{arith}
 -- ---- the ring's start, with the length stored before it
 
 module _ (w : List ℕ) (n : ℕ) where
-  start-word : getD (set w 0 n) 3 0 ≡ getD w 3 0
-  start-word = getD-set-other w 0 3 n 0 (λ e. omega arith)
+  start-word : getD (set w 0 n) startPlace 0 ≡ getD w startPlace 0
+  start-word = getD-set-other w 0 startPlace n 0 (λ e. omega arith)
 
   start-kept : startIn (set w 0 n) ≡ startIn w
   start-kept = ap (λ k. k % slots) start-word
@@ -40,7 +40,7 @@ module _ (w : List ℕ) (n : ℕ) where
   own-start : (x : Station) (m : ℕ) → Own w → startWord x m (set w 0 n) ≡ startOn x (startIn w) m
   unfolding wordsOf
   own-start A m e = ap (λ k. (k + m) % slots) start-kept
-  own-start B m e = start-word ∙ ap (λ u. getD u 3 0) e
+  own-start B m e = start-word ∙ ap (λ u. getD u startPlace 0) e
 
 start-less : (x : Station) (w : List ℕ) (m : ℕ) → startOn x (startIn w) m < slots
 start-less A w m = omega arith
@@ -53,7 +53,7 @@ end-stored x m w {n} {slot} {first} {moved} {after} {v} start put = record {
   first = firstWord v;
   second = secondWord v;
   word = startWord x m (set w 0 n);
-  long = sym (length-set w 0 n) ∙ sym (length-set (set w 0 n) 3 (startWord x m (set w 0 n))) ∙ ap length (sym (start .stored)) ∙ put .long;
+  long = sym (length-set w 0 n) ∙ sym (length-set (set w 0 n) startPlace (startWord x m (set w 0 n))) ∙ ap length (sym (start .stored)) ∙ put .long;
   stored = put .stored ∙ ap (λ u. inSlot u slot (firstWord v) (secondWord v)) (start .stored);
   vehicle = put .back;
   begins = moved-start w n x m;
@@ -100,12 +100,12 @@ number-most B = omega arith
 
 module _ (x : Station) (i : ℕ) (w : List ℕ) {n slot : ℕ} (size : n ≡ length (vehiclesOf (sectionIn w))) (here : i < length (vehiclesOf (sectionIn w))) (at : slot ≡ (startIn w + i) % slots) where
   -- the words of the start and of what the vehicle left on are as they were
-  first-stored : (first : ℕ) → set (set w 0 n) (ringFrom + 2 * slot) first ≡ inSlot (set (set w 0 n) 3 (getD w 3 0)) slot first (getD w (ringFrom + (2 * slot + 1)) 0)
+  first-stored : (first : ℕ) → set (set w 0 n) (ringFrom + 2 * slot) first ≡ inSlot (set (set w 0 n) startPlace (getD w startPlace 0)) slot first (getD w (ringFrom + (2 * slot + 1)) 0)
   first-stored first =
       let u : List ℕ = set w 0 n in
       let p : ℕ = ringFrom + 2 * slot in
       let q : ℕ = ringFrom + (2 * slot + 1) in
-      let start : set u 3 (getD w 3 0) ≡ u = ap (set u 3) (sym (start-word w n)) ∙ set-getD u 3 0 in
+      let start : set u startPlace (getD w startPlace 0) ≡ u = ap (set u startPlace) (sym (start-word w n)) ∙ set-getD u startPlace 0 in
       let word : getD (set u p first) q 0 ≡ getD w q 0 = getD-set-other u p q first 0 (λ e. omega arith) ∙ getD-set-other w 0 q n 0 (λ e. omega arith) in
       sym (ap (λ t. set (set t p first) q (getD w q 0)) start ∙ ap (set (set u p first) q) (sym word) ∙ set-getD (set u p first) q 0)
 
@@ -133,14 +133,14 @@ module _ (x : Station) (i : ℕ) (w : List ℕ) {n slot : ℕ} (size : n ≡ len
         record {
           first = firstWord v;
           second = getD w (ringFrom + (2 * slot + 1)) 0;
-          word = getD w 3 0;
+          word = getD w startPlace 0;
           long = long;
           stored = store ∙ first-stored (firstWord v);
           vehicle = vehicle-back v (getD w (ringFrom + (2 * slot + 1)) 0) (ap movementIn second-word) (omega arith) (omega arith) heads (omega arith);
           begins = refl;
           own-first = λ e. refl;
           own-second = λ e. second-word ∙ left-word e;
-          own-word = λ e. ap (λ u. getD u 3 0) e;
+          own-word = λ e. ap (λ u. getD u startPlace 0) e;
         }
 
     pub met-becomes : VehiclesBecome w after (redirectAt x i) (λ start. start)

@@ -8,6 +8,7 @@ use Rattle.words.specs.Words.{DeskBecomes, VehiclesBecome, OwnWords, byS
 use Rattle.working.proofs.Made.{vehicles-with}
 use Rattle.working.specs.Sections.{emptied, insertAt, vehiclesOf, padTo, unused, withDesk, withVehicles}
 use Rattle.working.specs.WellMade.{oneIf}
+use Rattle.working.specs.declared.Counts.{Counts}
 use Rattle.working.specs.declared.Desk.{Desk}
 use Rattle.working.specs.declared.Section.{Section}
 use Rattle.working.specs.declared.Station.the-variants.{A, B}
@@ -22,9 +23,11 @@ use native.Mathlib.Nat.{mod-eq-of-lt}
 use native.Mathlib.Numerals.{add-one}
 use native.Mathlib.Omega.{arith}
 
-pub own-emptied : (force : Bool) (count : ℕ) → count < 4294967296 → OwnWords (set (set (replicate wordCount 0) 1 (oneIf force)) 2 count) (emptied force count)
+pub own-emptied : (force : Bool) (counts : Counts) → counts .a < 4294967296 → counts .b < 4294967296 → counts .none < 4294967296
+    → OwnWords (set (set (set (set (replicate wordCount 0) 1 (oneIf force)) 2 (counts .a)) 3 (counts .b)) 4 (counts .none)) (emptied force counts)
 unfolding sectionIn wordsOf slotWords bySlot padTo
-own-emptied force count fits = record { section = rw (one-back force, mod-eq-of-lt fits); start = refl; words = refl; fits = omega arith }
+own-emptied force counts a b none =
+    record { section = rw (one-back force, mod-eq-of-lt a, mod-eq-of-lt b, mod-eq-of-lt none); start = refl; words = refl; fits = omega arith }
 
 -- one more vehicle
 pub own-next : {w after : List ℕ} (s : Section) (places : List Vehicle) (i : ℕ) → OwnWords w (withVehicles s (take i places)) → i < 24 → length places ≡ 24

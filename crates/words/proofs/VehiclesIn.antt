@@ -7,7 +7,7 @@ use Rattle.words.proofs.Round.{Moves, Stands, round-at, round-length}
 use Rattle.words.proofs.Slots.{inRing, list-altered, slot-altered, slot-words}
 use Rattle.words.proofs.Written.{as-written, set-past}
 use Rattle.words.specs.Stores.{inSlot}
-use Rattle.words.specs.Words.{Becomes, Own, vehiclesIn, presentIn, sectionIn, startIn, wordCount, wordsFrom, wordsOf}
+use Rattle.words.specs.Words.{Becomes, Own, vehiclesIn, presentIn, sectionIn, startIn, startPlace, wordCount, wordsFrom, wordsOf}
 use Rattle.words.specs.Words.{bySlot, firstWord, ringFrom, ringIn, round, secondWord, slotWords, slots, vehicleAt, vehicleIn}
 use Rattle.working.proofs.Made.{length-padTo, vehicles-with}
 use Rattle.working.proofs.Tests.{each-holds}
@@ -124,7 +124,7 @@ pub record Stored (w after : List ℕ) (slot : ℕ) (v : Vehicle) (n start : ℕ
   pub second : ℕ
   pub word : ℕ
   pub long : length w ≡ wordCount
-  pub stored : after ≡ inSlot (set (set w 0 n) 3 word) slot first second
+  pub stored : after ≡ inSlot (set (set w 0 n) startPlace word) slot first second
   pub vehicle : vehicleIn first second ≡ v
   pub begins : word % slots ≡ start
   pub own-first : Own w → first ≡ firstWord v
@@ -151,10 +151,10 @@ module _ (slot : ℕ) (v : Vehicle) (start : ℕ) (l : List Vehicle) (inside : s
         ∙ moves .alone few (list-altered ring slot v (omega arith)) slots-stand i (omega arith)
         ∙ sym (slot-at (padTo 24 l) start k (omega arith) ∙ pad-any 24 l i few))
 
-    own-after : inSlot (set (set (wordsOf s a) 0 (length l)) 3 start) slot (firstWord v) (secondWord v) ≡ wordsOf (withVehicles s l) start
+    own-after : inSlot (set (set (wordsOf s a) 0 (length l)) startPlace start) slot (firstWord v) (secondWord v) ≡ wordsOf (withVehicles s l) start
     unfolding wordsOf
     own-after =
-        let figures : List ℕ = set (set (wordsFrom 0 ringFrom (wordsOf s a)) 0 (length l)) 3 start in
+        let figures : List ℕ = set (set (wordsFrom 0 ringFrom (wordsOf s a)) 0 (length l)) startPlace start in
         slot-past figures (slotWords (bySlot (s .vehicles) a)) slot (firstWord v) (secondWord v) refl
         ∙ ap (figures ++_) (slot-words (bySlot (s .vehicles) a) slot v ∙ ap slotWords slots-after)
 
@@ -166,9 +166,9 @@ module _ (slot : ℕ) (v : Vehicle) (start : ℕ) (l : List Vehicle) (inside : s
       let first = r .first in
       let second = r .second in
       let word = r .word in
-      let figures : List ℕ = set (set (wordsFrom 0 ringFrom w) 0 n) 3 word in
+      let figures : List ℕ = set (set (wordsFrom 0 ringFrom w) 0 n) startPlace word in
       let shown : after ≡ figures ++ inRing (ringIn w) slot first second =
-      r .stored ∙ ap (λ u. inSlot (set (set u 0 n) 3 word) slot first second) (as-written w (r .long)) ∙ slot-past figures (ringIn w) slot first second refl in
+      r .stored ∙ ap (λ u. inSlot (set (set u 0 n) startPlace word) slot first second) (as-written w (r .long)) ∙ slot-past figures (ringIn w) slot first second refl in
       let altered = slot-altered (ringIn w) slot first second (omega (arith, length-drop ringFrom w, r .long)) (r .vehicle) in
       let stands = moves .present altered (vehicles-stand w) in
       let places : padTo 24 (round (vehicleAt (inRing (ringIn w) slot first second)) start (min n 24)) ≡ padTo 24 l =
@@ -179,6 +179,6 @@ module _ (slot : ℕ) (v : Vehicle) (start : ℕ) (l : List Vehicle) (inside : s
         own = λ few e.
             r .stored
             ∙ rw (size, r .own-first e, r .own-second e, r .own-word e)
-            (ap (λ u. inSlot (set (set u 0 (length l)) 3 start) slot (firstWord v) (secondWord v)) e
+            (ap (λ u. inSlot (set (set u 0 (length l)) startPlace start) slot (firstWord v) (secondWord v)) e
             ∙ own-after (sectionIn w) (startIn w) (vehiclesIn w) (omega arith) (vehicles-fit w) refl moves few);
       }

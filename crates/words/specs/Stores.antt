@@ -1,6 +1,6 @@
 -- What a store within this crate alters, as its functions tell one another.
 use Prim.Native.Nat.{_%_, _*_, _+_, _<_, ℕ}
-use Rattle.words.specs.Words.{deskFrom, deskWordsIn, firstWord, ringFrom, secondWord, slots, startIn, startOn, vehicleIn, wordCount}
+use Rattle.words.specs.Words.{deskFrom, deskWordsIn, firstWord, ringFrom, secondWord, slots, startIn, startOn, startPlace, vehicleIn, wordCount}
 use Rattle.working.specs.WellMade.{deskLength}
 use Rattle.working.specs.declared.Station.the-variants.{A, B}
 use Rattle.working.specs.declared.Station.{Station}
@@ -29,7 +29,7 @@ pub record VehiclePut (before after : List ℕ) (slot : ℕ) (v : Vehicle) : Typ
 -- the word of the ring's start, moved n slots on at A's end and as it was at B's
 abbrev pub startWord : Station → ℕ → List ℕ → ℕ
 startWord A n w = (startIn w + n) % slots
-startWord B n w = getD w 3 0
+startWord B n w = getD w startPlace 0
 
 -- the slot at a station's end, from the start on, with so many others in the ring
 abbrev pub endSlot : Station → ℕ → ℕ → ℕ
@@ -38,6 +38,6 @@ endSlot B start others = (start + others) % slots
 
 -- the ring's start is moved n slots on at A's end, and is now at a slot
 pub record StartMoved (before after : List ℕ) (x : Station) (n start : ℕ) : Type 0 where
-  pub stored : after ≡ set before 3 (startWord x n before)
+  pub stored : after ≡ set before startPlace (startWord x n before)
   pub at : start ≡ startOn x (startIn before) n
   pub inside : start < slots

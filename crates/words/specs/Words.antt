@@ -3,9 +3,9 @@
 --   word        | holds
 --   0           | how many vehicles are present
 --   1           | 1 in force, else 0
---   2           | entries refused
---   3           | the ring's start: the slot of the vehicle nearest A
---   from 4 on   | A's desk, a word for each of its figures (`deskFigures`), then B's
+--   2, 3, 4     | entries refused for A, for B, and of no station
+--   5           | the ring's start: the slot of the vehicle nearest A
+--   from 6 on   | A's desk, a word for each of its figures (`deskFigures`), then B's
 --   the last 64 | the ring: 32 slots of two words; place i is slot (start + i) % 32
 --
 -- A slot's first word, from its low end: form number (two bytes), sender, heading, met (1 or 0), class (a byte each).
@@ -14,9 +14,10 @@ use Prim.Native.Nat.{_%_, _*_, _+_, _-_, _/_, _^_, _≤_, min, suc, zero, ℕ}
 use Rattle.working.specs.Reasons.{findOf, mayMeet}
 pub use Rattle.working.specs.Sections.{withClears, withGuest, withOut}
 use Rattle.working.specs.Effects.{received}
-use Rattle.working.specs.Sections.{deskOf, padTo, unused, vehiclesOf, withDesk, withEntered, withVehicles}
+use Rattle.working.specs.Sections.{deskOf, padTo, placeOf, unused, vehiclesOf, withDesk, withEntered, withVehicles}
 use Rattle.working.specs.Steps.{metAt}
 use Rattle.working.specs.WellMade.{deskFigures, deskLength, numbersOf, oneIf}
+use Rattle.working.specs.declared.Counts.{Counts}
 use Rattle.working.specs.declared.Desk.{Desk}
 use Rattle.working.specs.declared.Interval.the-variants.{Since, Stopped}
 use Rattle.working.specs.declared.Interval.{Interval}
@@ -26,6 +27,8 @@ use Rattle.working.specs.declared.Section.{Section}
 use Rattle.working.specs.declared.Station.the-variants.{A, B}
 use Rattle.working.specs.declared.Station.{Station}
 use Rattle.working.specs.declared.Vehicle.{Vehicle}
+use Rattle.working.specs.declared.Whose.the-variants.{NoStation, Of}
+use Rattle.working.specs.declared.Whose.{Whose}
 use lib.Dec.{eqb}
 use lib.ListN.{drop, getD}
 use mathlib.Core.Bool.{Bool, false, true}
@@ -34,13 +37,23 @@ use mathlib.Core.Path.{_≡_}
 
 -- ---- how many words
 
+-- where the counts begin; the word of the ring's start, behind them; and where the desks begin
+abbrev pub countsFrom : ℕ
+countsFrom = 2
+
+abbrev pub startPlace : ℕ
+startPlace = countsFrom + 3
+
+abbrev pub desksFrom : ℕ
+desksFrom = startPlace + 1
+
 -- where a station's words begin
 abbrev pub deskFrom : Station → ℕ
-deskFrom A = 4
-deskFrom B = 4 + deskLength
+deskFrom A = desksFrom
+deskFrom B = desksFrom + deskLength
 
 abbrev pub ringFrom : ℕ
-ringFrom = 4 + 2 * deskLength
+ringFrom = desksFrom + 2 * deskLength
 
 abbrev pub slots : ℕ
 slots = 32
@@ -109,7 +122,7 @@ abbrev pub vehicleAt : List ℕ → ℕ → Vehicle
 vehicleAt ring slot = vehicleIn (getD ring (2 * slot) 0) (getD ring (2 * slot + 1) 0)
 
 abbrev pub startIn : List ℕ → ℕ
-startIn w = getD w 3 0 % slots
+startIn w = getD w startPlace 0 % slots
 
 -- as many vehicles as there are places for
 abbrev pub presentIn : List ℕ → ℕ
@@ -162,6 +175,21 @@ deskWordsIn w x = wordsFrom (deskFrom x) deskLength w
 abbrev pub deskIn : List ℕ → Station → Desk
 deskIn w x = deskRead (deskWordsIn w x)
 
+-- ---- the counts
+
+-- the place of a count, and what it is
+abbrev pub countPlace : Whose → ℕ
+countPlace whose = countsFrom + placeOf whose
+
+abbrev pub countIn : List ℕ → Whose → ℕ
+countIn w whose = getD w (countPlace whose) 0 % 4294967296
+
+abbrev pub countsIn : List ℕ → Counts
+countsIn w = record { a = countIn w (Of A); b = countIn w (Of B); none = countIn w NoStation }
+
+abbrev pub countWords : Counts → List ℕ
+countWords c = c .a ∷ c .b ∷ c .none ∷ []
+
 -- ---- the section that words stand for, and the words of a section whose ring starts at a slot
 
 unfoldable pub sectionIn : List ℕ → Section
@@ -169,13 +197,14 @@ sectionIn w = record {
   vehicles = padTo 24 (vehiclesIn w);
   len = getD w 0 0;
   force = eqb (getD w 1 0) 1;
-  refused = getD w 2 0 % 4294967296;
+  refused = countsIn w;
   a = deskIn w A;
   b = deskIn w B;
 }
 
 unfoldable pub wordsOf : Section → ℕ → List ℕ
-wordsOf s start = s .len ∷ oneIf (s .force) ∷ s .refused ∷ start ∷ deskWords (s .a) ++ deskWords (s .b) ++ slotWords (bySlot (s .vehicles) start)
+wordsOf s start =
+    s .len ∷ oneIf (s .force) ∷ countWords (s .refused) ++ start ∷ deskWords (s .a) ++ deskWords (s .b) ++ slotWords (bySlot (s .vehicles) start)
 
 -- the words are some section's own: of all that stand for it, from that start on, those that a definition names
 abbrev pub Own : List ℕ → Type 0

@@ -1,33 +1,33 @@
-// What a section holds but for its vehicles, in lent words: how many they are, in force, refused, the ring's start, and a word for each figure of the two desks.
+// What a section holds but for its vehicles, in lent words: how many they are, in force, the counts of refused entries, the ring's start, and a word for each figure of the two desks.
 ghost use Prim.Native.Nat.{_+_, _<_, _≤_};
 ghost use Rattle.words.specs.Stores.{DeskPut};
-ghost use Rattle.words.specs.Words.{Becomes, DeskBecomes, deskFrom, deskRead, deskWordsIn, intervalIn, sectionIn, startIn, withDeparture, withReceipt};
-ghost use Rattle.working.specs.Sections.{countRefusal, deskOf, withClears, withEntered, withGuest, withInterval, withOut};
+ghost use Rattle.words.specs.Words.{Becomes, DeskBecomes, countIn, countPlace, deskFrom, deskRead, deskWordsIn, intervalIn, sectionIn, startIn, startPlace, withDeparture, withReceipt};
+ghost use Rattle.working.specs.Sections.{countRefusal, deskOf, oneMore, withClears, withEntered, withGuest, withInterval, withOut};
 ghost use Rattle.working.specs.WellMade.{deskLength};
 ghost use Rattle.working.specs.declared.Interval.the-variants.{Stopped};
 ghost use Rattle.working.specs.declared.Station.the-variants.{B};
-ghost use lib.Dec.{ltb};
 ghost use lib.ListN.{length, set};
-ghost use mathlib.Core.Bool.{cond};
 ghost use mathlib.Core.Path.{_≡_};
 use crate::vehicles::BYTE;
 use crate::vehicles::TWO_BYTES;
 use crate::vehicles::word_if;
 use working::Clears;
+use working::Counts;
 use working::Desk;
 use working::Interval;
-use working::Section;
 use working::Station;
+use working::Whose;
 
 pub(crate) const LEN: usize = 0;
 
 pub(crate) const FORCE: usize = 1;
 
+// Entries refused for A, and behind it for B and of no station.
 pub(crate) const REFUSED: usize = 2;
 
-pub(crate) const START: usize = 3;
+pub(crate) const START: usize = REFUSED + 3;
 
-const FIRST_DESK: usize = 4;
+const FIRST_DESK: usize = START + 1;
 
 // The figures of a desk, each at its place.
 const CLOCK: usize = 0;
@@ -60,7 +60,7 @@ pub const WORDS: usize = RING + SLOT_LENGTH * SLOTS;
 pub type Words = [u64; WORDS];
 
 // One more than the largest count.
-const COUNTS: u64 = Section::MOST_REFUSED as u64 + 1;
+const COUNTS: u64 = Counts::LARGEST as u64 + 1;
 
 // Where a station's words begin.
 fn desk_from(at: Station) -> usize
@@ -194,31 +194,55 @@ pub(crate) fn put_desk(words: &mut Words, at: Station, d: Desk)
     }
 }
 
-// The count with one more, up to its largest value.
-fn one_more_refused(count: u32) -> u32
-    ensures { λ r. ⌜ r ≡ cond (ltb count 4294967295) (count + 1) count ⌝ }
+// Where the count of those whose a refusal is stands.
+fn count_place(whose: Whose) -> usize
+    ensures { λ r. ⌜ (r ≡ countPlace whose) × (r < startPlace) ⌝ }
 {
-    if count < Section::MOST_REFUSED {
+    match whose {
+        Whose::Of(at) => match at {
+            Station::A => REFUSED,
+            Station::B => REFUSED + 1,
+        },
+        Whose::NoStation => REFUSED + 2,
+    }
+}
+
+// Their count.
+fn count(words: &Words, whose: Whose) -> u32
+    ensures { λ r. ⌜ r ≡ countIn (now (words .entry)) whose ⌝ }
+{
+    (words[count_place(whose)] % COUNTS) as u32
+}
+
+// A count with one more, up to its largest value.
+fn one_more(count: u32) -> u32
+    ensures { λ r. ⌜ r ≡ oneMore count ⌝ }
+{
+    if count < Counts::LARGEST {
         count + 1
     } else {
         count
     }
 }
 
-// Entries refused.
-pub fn refused(words: &Words) -> u32
+// Entries refused for A, for B, and of no station.
+pub fn refused(words: &Words) -> Counts
     ensures { λ r. ⌜ r ≡ sectionIn (now (words .entry)) .refused ⌝ }
 {
-    (words[REFUSED] % COUNTS) as u32
+    Counts {
+        a: count(words, Whose::Of(Station::A)),
+        b: count(words, Whose::Of(Station::B)),
+        none: count(words, Whose::NoStation),
+    }
 }
 
-// One more entry is refused; the count stops at its largest value.
-pub fn count_refusal(words: &mut Words)
-    ensures { λ _. ⌜ Becomes (now (words .entry)) (now (words .exit)) (countRefusal (sectionIn (now (words .entry)))) (startIn (now (words .entry))) ⌝ }
+// One more entry is refused, theirs whose it is; each count stops at its own largest value.
+pub fn count_refusal(words: &mut Words, whose: Whose)
+    ensures { λ _. ⌜ Becomes (now (words .entry)) (now (words .exit)) (countRefusal whose (sectionIn (now (words .entry)))) (startIn (now (words .entry))) ⌝ }
 {
     let _ = &words[..];
-    let count = one_more_refused(refused(words));
-    words[REFUSED] = count as u64;
+    let more = one_more(count(words, whose));
+    words[count_place(whose)] = more as u64;
 }
 
 // Whether the working is in force.

@@ -14,6 +14,7 @@ use crate::ring::emptied_words;
 use crate::ring::fitting;
 use crate::ring::insert;
 use crate::ring::present_in;
+use working::Counts;
 use working::Section;
 use working::Station;
 use working::Vehicle;
@@ -22,15 +23,20 @@ use working::Vehicle;
 pub fn fresh_words() -> Words
     ensures { λ r. ⌜ OwnWords r fresh ⌝ }
 {
-    emptied_words(false, 0)
+    emptied_words(false, Counts::zero())
 }
 
 // The words of a section with the first `len` of its places, and both desks as fresh.
-fn present_words(force: bool, count: u32, places: [Vehicle; Section::PLACES], len: usize) -> Words
-    ensures { λ r. ⌜ OwnWords r (withVehicles (emptied force count) (take len places)) ⌝ }
+fn present_words(
+    force: bool,
+    counts: Counts,
+    places: [Vehicle; Section::PLACES],
+    len: usize,
+) -> Words
+    ensures { λ r. ⌜ OwnWords r (withVehicles (emptied force counts) (take len places)) ⌝ }
 {
     let present = fitting(len);
-    let mut words = emptied_words(force, count);
+    let mut words = emptied_words(force, counts);
     let mut i = 0;
     while i < present {
         insert(&mut words, Station::B, places[i]);
@@ -44,9 +50,10 @@ pub fn words_of(s: Section) -> Words
     ensures { λ r. ⌜ OwnWords r (withVehicles s (vehiclesOf s)) ⌝ }
 {
     let places = s.vehicles;
+    let counts = s.refused;
     let a = s.a;
     let b = s.b;
-    let mut words = present_words(s.force, s.refused, places, s.len);
+    let mut words = present_words(s.force, counts, places, s.len);
     put_desk(&mut words, Station::A, a);
     put_desk(&mut words, Station::B, b);
     words

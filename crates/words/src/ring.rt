@@ -25,6 +25,7 @@ use crate::vehicles::word_if;
 use section::is_named;
 use section::is_opener;
 use section::station_number;
+use working::Counts;
 use working::Section;
 use working::Station;
 use working::Vehicle;
@@ -33,12 +34,14 @@ use working::Vehicle;
 const ONE_BACK: usize = SLOTS - 1;
 
 // The words of a section with no vehicle and both desks as fresh.
-pub(crate) fn emptied_words(force: bool, count: u32) -> Words
-    ensures { λ r. ⌜ OwnWords r (emptied force count) ⌝ }
+pub(crate) fn emptied_words(force: bool, counts: Counts) -> Words
+    ensures { λ r. ⌜ OwnWords r (emptied force counts) ⌝ }
 {
     let mut words = [0; WORDS];
     words[FORCE] = word_if(force);
-    words[REFUSED] = count as u64;
+    words[REFUSED] = counts.a as u64;
+    words[REFUSED + 1] = counts.b as u64;
+    words[REFUSED + 2] = counts.none as u64;
     words
 }
 

@@ -1,4 +1,4 @@
--- `desks::refused` meets its contract: the word says so.
+-- `desks::refused` meets its contract: the words say so.
 -- Assumes nothing.
 use Rattle.words.proofs.desks.refused.Statement.{statement}
 use Rattle.words.proofs.desks.refused.Tie as tie
@@ -7,7 +7,7 @@ use borrow.Author.Needs.{needs}
 
 returns : tie.Need-returns
 unfolding sectionIn
-returns c = search needs
+returns c = rw (c .before .before .count .ensures, c .before .count2 .ensures, c .count3 .ensures)
 
 pub refused-spec : {M : Type 1} → statement M
-refused-spec = tie.close (tie.spec (λ c. search needs) (λ c. search needs) returns)
+refused-spec = tie.close (tie.spec (λ c κs. search needs) (λ c κs. search needs) (λ c κs. search needs) returns)

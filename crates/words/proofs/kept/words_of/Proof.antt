@@ -10,7 +10,7 @@ returns : tie.Need-returns
 returns c =
     let first = c .before .before in
     let begun = first .before .before in
-    let s = begun .before .before .before .before .args .s in
+    let s = begun .before .before .before .before .before .args .s in
     own-desk B (s .b) (own-desk A (s .a) (begun .present-words .ensures) (first .put-desk .ensures)) (c .put-desk2 .ensures)
 
 pub words-of-spec : {M : Type 1} → statement M

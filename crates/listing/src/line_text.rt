@@ -11,6 +11,7 @@ use crate::text::put_field;
 use crate::text::put_number;
 use working::Answer;
 use working::Clears;
+use working::Counts;
 use working::Speed;
 
 // The longest log that is listed, in bytes.
@@ -81,28 +82,31 @@ pub(crate) fn put_entry(
 }
 
 // How many figures the last line has.
-pub const END_FIGURES: usize = 8;
+pub const END_FIGURES: usize = 10;
 
 pub type EndFigures = [u64; END_FIGURES];
 
-// What the last line says of the section: entries refused, vehicles present, and what each station holds and owes.
+// What the last line says of the section: entries refused for A, for B and of no station, vehicles present, and what each station holds and owes.
 pub struct SectionFigures {
-    pub refused: u32,
+    pub refused: Counts,
     pub present: usize,
     pub a: Clears,
     pub b: Clears,
 }
 
-// The figures of the last line, in its order: entries, accepted, refused, vehicles present, A holds, A owes, B holds, B owes.
+// The figures of the last line, in its order: entries, accepted, refused for A, for B and of no station, vehicles present, A holds, A owes, B holds, B owes.
 pub fn end_figures(entries: usize, accepted: usize, s: SectionFigures) -> EndFigures
     ensures { λ r. ⌜ r ≡ endFigures entries accepted s ⌝ }
 {
+    let refused = s.refused;
     let a = s.a;
     let b = s.b;
     [
         entries as u64,
         accepted as u64,
-        s.refused as u64,
+        refused.a as u64,
+        refused.b as u64,
+        refused.none as u64,
         s.present as u64,
         a.holds as u64,
         a.owes as u64,

@@ -9,7 +9,7 @@
 
 use crate::entry::{bit, encode, entry_length, laid_out, Entry, Kind, LONGEST_ENTRY};
 use crate::random::Random;
-use crate::section::{Desk, Section, Station, Vehicle};
+use crate::section::{Desk, Refused, Section, Station, Vehicle};
 use crate::step::step_in_place;
 
 /// How a log is to be made.
@@ -568,7 +568,7 @@ pub(crate) fn bytes_of(entry: &Entry) -> Vec<u8> {
 #[must_use]
 pub fn any_section(random: &mut Random) -> Section {
     let mut section = Section {
-        refused: random.pick(&[0, 1, u32::MAX - 1, u32::MAX]),
+        refused: any_counts(random),
         ..Section::fresh()
     };
     if random.chance(10) {
@@ -583,6 +583,16 @@ pub fn any_section(random: &mut Random) -> Section {
         }
     }
     section
+}
+
+/// Each by itself, so that one is often at its largest value and another not.
+fn any_counts(random: &mut Random) -> Refused {
+    let mut count = || random.pick(&[0, 1, u32::MAX - 1, u32::MAX]);
+    Refused {
+        for_a: count(),
+        for_b: count(),
+        of_none: count(),
+    }
 }
 
 fn any_number_of_vehicles(random: &mut Random) -> u8 {
@@ -705,6 +715,7 @@ mod tests {
 
     #[test]
     fn an_accepted_log_has_no_refusal() {
+        let none = Refused::default();
         for seed in 0..10 {
             for full in [false, true] {
                 let options = Options {
@@ -713,7 +724,7 @@ mod tests {
                     ..Options::default()
                 };
                 let long = log(seed, 500, options);
-                assert_eq!(Run::new(&long).finish().refused, 0, "seed {seed}");
+                assert_eq!(Run::new(&long).finish().refused, none, "seed {seed}");
                 let short = Options {
                     bytes: Some(1_001),
                     ..options
@@ -721,7 +732,7 @@ mod tests {
                 let short = log(seed, 500, short);
                 assert!((990..=1_001).contains(&short.len()), "{}", short.len());
                 assert!(long.starts_with(&short));
-                assert_eq!(Run::new(&short).finish().refused, 0, "seed {seed}");
+                assert_eq!(Run::new(&short).finish().refused, none, "seed {seed}");
             }
         }
     }

@@ -26,5 +26,5 @@ pub use entry::{decode, encode, entry_length, Entry, Kind};
 pub use lister::{list, LONGEST_LOG};
 pub use log::{Line, Reader, Run, Writer};
 pub use refusal::Refusal;
-pub use section::{Desk, Section, Station, Vehicle};
-pub use step::{step, step_in_place, Accepted, Answer, Speed};
+pub use section::{Desk, Refused, Section, Station, Vehicle};
+pub use step::{refused_for, step, step_in_place, Accepted, Answer, Speed};

@@ -178,7 +178,7 @@ fn name_entry(
             let owes = before.desks.iter().any(|desk| desk.owes > 0);
             name(owes, "resumed though a clear is owed");
         }
-        Kind::Begin => name(before.refused > 0, "begun with refusals counted"),
+        Kind::Begin => name(before.refused.total() > 0, "begun with refusals counted"),
     }
 }
 
@@ -251,10 +251,17 @@ fn every_log_is_listed_line_by_line() {
         let listing = list(log);
         let run: Vec<Line> = Run::new(log).collect();
         assert_eq!(listing.lines().count(), run.len() + 1);
-        let refused = run.iter().filter(|line| line.answer.is_err()).count();
-        let accepted = run.len() - refused;
-        let end = format!("end {} {accepted} {refused} ", run.len());
-        assert!(listing.lines().last().unwrap().starts_with(&end));
+        let accepted = run.iter().filter(|line| line.answer.is_ok()).count();
+        let end = listing.lines().last().unwrap();
+        let figures: Vec<usize> = end
+            .strip_prefix("end ")
+            .unwrap()
+            .split(' ')
+            .map(|figure| figure.parse().unwrap())
+            .collect();
+        assert_eq!(figures.len(), 10);
+        assert_eq!(figures[..2], [run.len(), accepted]);
+        assert_eq!(figures[0], figures[1..5].iter().sum::<usize>());
     }
 }
 

@@ -48,9 +48,7 @@ fn counted(mut refused: Refused, refusal: u8, bytes: &[u8]) -> Refused {
         [_, _, 2, ..] => &mut refused.for_b,
         _ => panic!("refused with {refusal}: {bytes:?}"),
     };
-    if *count < u32::MAX {
-        *count += 1;
-    }
+    *count = count.saturating_add(1);
     refused
 }
 

@@ -5,7 +5,7 @@
 //! that [`Section`] can hold: see [`Section::figures`].
 
 use crate::entry::Kind;
-use crate::section::{Desk, Section, Vehicle};
+use crate::section::{Desk, Refused, Section, Vehicle};
 
 /// The bytes of one place: kind, asked, granted, sender, form number (2),
 /// heading, met, class.
@@ -15,10 +15,14 @@ const PLACE_LENGTH: usize = 9;
 /// running, its minute (2), out, guest, asked, holds, owes.
 const DESK_LENGTH: usize = 13;
 
+/// The bytes of the counts of refused entries: for A (4), for B (4), of no
+/// station (4).
+const REFUSED_LENGTH: usize = 12;
+
 /// The bytes of a section: its places, the vehicles present, in force, the
-/// count (4), and the desks of A and B.
+/// counts of refused entries, and the desks of A and B.
 pub const FIGURES_LENGTH: usize =
-    Section::MOST_VEHICLES * PLACE_LENGTH + 1 + 1 + 4 + 2 * DESK_LENGTH;
+    Section::MOST_VEHICLES * PLACE_LENGTH + 1 + 1 + REFUSED_LENGTH + 2 * DESK_LENGTH;
 
 /// The figures of a section; those of more than one byte high byte first.
 pub type Figures = [u8; FIGURES_LENGTH];
@@ -46,7 +50,7 @@ impl Section {
         }
         bytes.push(u8::try_from(self.present).ok()?);
         bytes.push(self.in_force.into());
-        bytes.extend(self.refused.to_be_bytes());
+        bytes.extend(refused_figures(&self.refused));
         bytes.extend(self.desks.iter().flat_map(desk_figures));
         bytes.try_into().ok()
     }
@@ -59,7 +63,7 @@ impl Section {
             places: std::array::from_fn(|_| rest.place()),
             present: rest.byte().into(),
             in_force: rest.flag(),
-            refused: u32::from_be_bytes(rest.next()),
+            refused: rest.refused(),
             desks: std::array::from_fn(|_| rest.desk()),
         };
         // A flag of 2, a kind that is none of the four or the minute of an
@@ -95,6 +99,12 @@ fn is_zero_but_for_its_kind(vehicle: &Vehicle) -> bool {
             left_on: vehicle.left_on,
             ..Vehicle::default()
         }
+}
+
+fn refused_figures(refused: &Refused) -> impl Iterator<Item = u8> {
+    [refused.for_a, refused.for_b, refused.of_none]
+        .into_iter()
+        .flat_map(u32::to_be_bytes)
 }
 
 fn desk_figures(desk: &Desk) -> [u8; DESK_LENGTH] {
@@ -140,6 +150,14 @@ impl Rest<'_> {
         }
     }
 
+    fn refused(&mut self) -> Refused {
+        Refused {
+            for_a: self.count(),
+            for_b: self.count(),
+            of_none: self.count(),
+        }
+    }
+
     fn desk(&mut self) -> Desk {
         Desk {
             clock: self.pair(),
@@ -172,6 +190,10 @@ impl Rest<'_> {
         u16::from_be_bytes(self.next())
     }
 
+    fn count(&mut self) -> u32 {
+        u32::from_be_bytes(self.next())
+    }
+
     /// The figures of a section are as many as are read, so they do not run out.
     fn next<const N: usize>(&mut self) -> [u8; N] {
         match self.0.split_first_chunk::<N>() {
@@ -189,22 +211,22 @@ mod tests {
     use super::*;
 
     #[test]
-    fn there_are_248_of_them() {
-        assert_eq!(FIGURES_LENGTH, 248);
-        assert_eq!(Section::fresh().figures(), Some([0; 248]));
-        assert_eq!(Section::from_figures(&[0; 248]), Some(Section::fresh()));
+    fn there_are_256_of_them() {
+        assert_eq!(FIGURES_LENGTH, 256);
+        assert_eq!(Section::fresh().figures(), Some([0; 256]));
+        assert_eq!(Section::from_figures(&[0; 256]), Some(Section::fresh()));
     }
 
     #[test]
     fn the_digest_is_taken_figure_by_figure() {
         let mut figures = [0; FIGURES_LENGTH];
         assert_eq!(digest(&figures), 0);
-        figures[247] = 5;
+        figures[255] = 5;
         assert_eq!(digest(&figures), 5);
-        figures[246] = 2;
+        figures[254] = 2;
         assert_eq!(digest(&figures), 2 * 31 + 5);
         // 31 to the seventh is 27,512,614,111, which is over the largest.
-        figures[240] = 1;
+        figures[248] = 1;
         let exact = 27_512_614_111_u64 + 2 * 31 + 5;
         assert_eq!(u64::from(digest(&figures)), exact % 4_294_967_296);
     }

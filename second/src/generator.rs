@@ -9,7 +9,7 @@
 
 use crate::entry::{bit, encode, entry_length, laid_out, Entry, Kind, LONGEST_ENTRY};
 use crate::random::Random;
-use crate::section::{Desk, Section, Station, Vehicle};
+use crate::section::{Desk, Refused, Section, Station, Vehicle};
 use crate::step::step_in_place;
 
 /// How a log is to be made.
@@ -135,6 +135,11 @@ impl Generator {
         if self.options.accepted {
             return bytes_of(&self.likely_entry());
         }
+        // Not in force only BEGIN is likely, and the next entry would nearly
+        // always be one: refusal 7 would hardly be seen.
+        if !self.section.in_force && self.random.chance(50) {
+            return bytes_of(&self.blind_entry());
+        }
         match self.random.below(100) {
             0..=4 => self.no_entry(),
             5..=12 => bytes_of(&self.spoiled_entry()),
@@ -144,13 +149,16 @@ impl Generator {
     }
 
     fn ends_cut(&mut self) -> bool {
-        !self.options.accepted && self.random.chance(30)
+        !self.options.accepted && self.random.chance(50)
     }
 
-    /// The first bytes of an entry, at least one of them and never all.
+    /// The first bytes of an entry, at least one of them and never all; mostly
+    /// as many as show its station.
     fn cut_entry(&mut self) -> Vec<u8> {
         let mut bytes = bytes_of(&self.blind_entry());
-        let kept = self.random.between(1, bytes.len() as u16 - 1);
+        let most = bytes.len() as u16 - 1;
+        let least = if self.random.chance(70) { 3 } else { 1 };
+        let kept = self.random.between(most.min(least), most);
         bytes.truncate(kept.into());
         bytes
     }
@@ -460,7 +468,7 @@ impl Generator {
 
     /// Bytes as long as their map says that are no entry.
     fn no_entry(&mut self) -> Vec<u8> {
-        match self.random.below(5) {
+        match self.random.below(6) {
             0 => vec![0],
             1 => self.any_bytes(),
             2 => self.with_another_kind(),
@@ -495,6 +503,14 @@ impl Generator {
     /// One field just outside its range, or far outside.
     fn with_a_bad_field(&mut self) -> Vec<u8> {
         let mut entry = self.blind_entry();
+        // A kind out of its range is 2, and no time is out of its range.
+        let present: Vec<u32> = [1, 3, 4, 5, 6, 7]
+            .into_iter()
+            .filter(|place| entry.map & (1 << place) != 0)
+            .collect();
+        if present.is_empty() {
+            return self.with_another_kind();
+        }
         let far = self.random.small(10, u8::MAX);
         let mut outside = |last: u8| self.random.pick(&[0, 0, last + 1, last + 1, far]);
         let wrong = Entry {
@@ -512,18 +528,14 @@ impl Generator {
         };
         let form = self.random.between(Section::LAST_FORM + 1, u16::MAX);
         let wrong_form = self.random.pick(&[0, Section::LAST_FORM + 1, form]);
-        let present: Vec<u32> = (0..8)
-            .filter(|place| entry.map & (1 << place) != 0)
-            .collect();
         match self.random.pick(&present) {
             1 => entry.station = wrong.station,
             3 => entry.view = wrong.view,
             4 => entry.class = wrong.class,
             5 => entry.asked = wrong.asked,
             6 => entry.granted = wrong.granted,
-            7 if self.random.chance(50) => entry.sender = wrong.sender,
-            7 => entry.form = wrong_form,
-            _ => entry.kind = 9,
+            _ if self.random.chance(50) => entry.sender = wrong.sender,
+            _ => entry.form = wrong_form,
         }
         laid_out(&entry)[..entry_length(entry.map)].to_vec()
     }
@@ -568,7 +580,7 @@ pub(crate) fn bytes_of(entry: &Entry) -> Vec<u8> {
 #[must_use]
 pub fn any_section(random: &mut Random) -> Section {
     let mut section = Section {
-        refused: random.pick(&[0, 1, u32::MAX - 1, u32::MAX]),
+        refused: any_counts(random),
         ..Section::fresh()
     };
     if random.chance(10) {
@@ -583,6 +595,16 @@ pub fn any_section(random: &mut Random) -> Section {
         }
     }
     section
+}
+
+/// Each by itself, so that one is often at its largest value and another not.
+fn any_counts(random: &mut Random) -> Refused {
+    let mut count = || random.pick(&[0, 1, u32::MAX - 1, u32::MAX]);
+    Refused {
+        for_a: count(),
+        for_b: count(),
+        of_none: count(),
+    }
 }
 
 fn any_number_of_vehicles(random: &mut Random) -> u8 {
@@ -705,6 +727,7 @@ mod tests {
 
     #[test]
     fn an_accepted_log_has_no_refusal() {
+        let none = Refused::default();
         for seed in 0..10 {
             for full in [false, true] {
                 let options = Options {
@@ -713,7 +736,7 @@ mod tests {
                     ..Options::default()
                 };
                 let long = log(seed, 500, options);
-                assert_eq!(Run::new(&long).finish().refused, 0, "seed {seed}");
+                assert_eq!(Run::new(&long).finish().refused, none, "seed {seed}");
                 let short = Options {
                     bytes: Some(1_001),
                     ..options
@@ -721,7 +744,7 @@ mod tests {
                 let short = log(seed, 500, short);
                 assert!((990..=1_001).contains(&short.len()), "{}", short.len());
                 assert!(long.starts_with(&short));
-                assert_eq!(Run::new(&short).finish().refused, 0, "seed {seed}");
+                assert_eq!(Run::new(&short).finish().refused, none, "seed {seed}");
             }
         }
     }

@@ -1,10 +1,11 @@
 //! Two stations and the single line section between them, worked under total
-//! failure of communication: a second reading of the document, written from
-//! the document alone, so that the first can be compared with it.
+//! failure of communication: a second reading of the document and of request
+//! T-01, written from them alone, so that the first can be compared with it.
 //!
 //! * [`decode`] and [`encode`] turn bytes into an [`Entry`] and back,
 //! * [`Section`] is all that is held, and [`Section::is_well_made`] tests it,
-//! * [`step()`] and [`step_in_place`] answer one entry,
+//! * [`step()`] and [`step_in_place`] answer one entry, and [`refused_for`] says
+//!   whose a refused one is,
 //! * [`Run`] runs a whole log, and [`list`] prints it,
 //! * [`generator`] makes logs, and [`walk`] holds the claims about lists of
 //!   steps against them,
@@ -26,5 +27,5 @@ pub use entry::{decode, encode, entry_length, Entry, Kind};
 pub use lister::{list, LONGEST_LOG};
 pub use log::{Line, Reader, Run, Writer};
 pub use refusal::Refusal;
-pub use section::{Desk, Section, Station, Vehicle};
-pub use step::{step, step_in_place, Accepted, Answer, Speed};
+pub use section::{Desk, Refused, Section, Station, Vehicle};
+pub use step::{refused_for, step, step_in_place, Accepted, Answer, Speed};

@@ -176,6 +176,40 @@ impl Vehicle {
     }
 }
 
+/// Entries refused, by whose they are. [`crate::refused_for`] says which count
+/// a refused step belongs to.
+#[derive(Clone, Copy, Debug, Default, PartialEq, Eq, Hash)]
+pub struct Refused {
+    /// Entries refused for A.
+    pub for_a: u32,
+    /// Entries refused for B.
+    pub for_b: u32,
+    /// Refused entries of no station.
+    pub of_none: u32,
+}
+
+impl Refused {
+    /// Counts one more refused entry of this station, or of none. A count at
+    /// its largest value stays there, whatever the other two are.
+    pub fn count(&mut self, whose: Option<Station>) {
+        let count = match whose {
+            Some(Station::A) => &mut self.for_a,
+            Some(Station::B) => &mut self.for_b,
+            None => &mut self.of_none,
+        };
+        *count = count.saturating_add(1);
+    }
+
+    /// The three counts together.
+    #[must_use]
+    pub fn total(&self) -> u64 {
+        [self.for_a, self.for_b, self.of_none]
+            .map(u64::from)
+            .iter()
+            .sum()
+    }
+}
+
 /// The section between the two stations.
 ///
 /// Every figure is open to its owner, who may therefore also hold one that is
@@ -188,8 +222,8 @@ pub struct Section {
     pub present: usize,
     /// Whether the working is in force.
     pub in_force: bool,
-    /// Refused entries; stops at its largest value.
-    pub refused: u32,
+    /// Refused entries, in three counts.
+    pub refused: Refused,
     /// The desks of A and B.
     pub desks: [Desk; 2],
 }
@@ -221,7 +255,7 @@ impl Section {
             places: [Vehicle::default(); Section::MOST_VEHICLES],
             present: 0,
             in_force: false,
-            refused: 0,
+            refused: Refused::default(),
             desks: [Desk::default(); 2],
         }
     }
@@ -263,7 +297,7 @@ impl Section {
     #[must_use]
     pub fn is_well_made(&self) -> bool {
         if !self.in_force {
-            return self.is_fresh_but_for_the_count();
+            return self.is_fresh_but_for_the_counts();
         }
         self.unused_places_are_zero()
             && self.desks.iter().all(Desk::is_well_made)
@@ -274,7 +308,7 @@ impl Section {
                 .all(|&sender| self.departures_are_counted(sender) && self.forms_fit(sender))
     }
 
-    fn is_fresh_but_for_the_count(&self) -> bool {
+    fn is_fresh_but_for_the_counts(&self) -> bool {
         *self
             == Section {
                 refused: self.refused,
@@ -390,10 +424,14 @@ mod tests {
     }
 
     #[test]
-    fn the_fresh_section_is_well_made_with_any_count() {
+    fn the_fresh_section_is_well_made_with_any_counts() {
         let mut section = Section::fresh();
         assert!(section.is_well_made());
-        section.refused = u32::MAX;
+        section.refused = Refused {
+            for_a: u32::MAX,
+            for_b: 1,
+            of_none: 70_000,
+        };
         assert!(section.is_well_made());
         section.desks[1].clock = 1;
         assert!(!section.is_well_made());

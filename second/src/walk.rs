@@ -1,26 +1,28 @@
 //! Long walks that hold the claims about lists of steps against themselves.
 //!
 //! A list starts from the fresh section, and each step gets the section that
-//! the step before it left. Three claims are tested:
+//! the step before it left. Four claims are tested:
 //!
 //! * two vehicles heading towards one another both left on T/B 602 at 15 km/h
 //!   or less, at the end of every list;
 //! * in force, the line clears owed by a station are those the other holds, the
 //!   other's trains in the section and the line clears on the way to the other;
+//! * each refused step is counted once, for its station or as of none;
 //! * two neighbours that are accepted, of different stations, no MEET, the
-//!   second not receiving what the first sent, may change places.
+//!   second not receiving what the first sent, may change places: every answer
+//!   and every figure of the last section, the three counts among them, stay.
 //!
 //! What a vehicle left on is looked up in the list of entries and answers and
 //! not in the vehicle's own record. Every state of a walk is the end of a list,
-//! so the first two claims are tested after every step.
+//! so the first three claims are tested after every step.
 
 use std::fmt;
 
 use crate::entry::{decode, Entry, Kind};
 use crate::generator::{Generator, Options};
 use crate::random::Random;
-use crate::section::{Section, Station, Vehicle};
-use crate::step::{form, step, step_in_place, Accepted, Answer, Speed};
+use crate::section::{Refused, Section, Station, Vehicle};
+use crate::step::{form, refused_for, step, step_in_place, Accepted, Answer, Speed};
 
 /// The longest list of a walk. Each swap reruns what is left of its list, so
 /// the time for a list grows with the square of its length.
@@ -185,6 +187,7 @@ fn check_state(list: &[Step], section: &Section, tally: &mut Tally) -> Result<()
     tally.most_vehicles = tally.most_vehicles.max(section.present);
     tally.opposed_pairs += check_opposed(list, section)?;
     check_owed(list, section)?;
+    check_counts(list, section)?;
     let owing = section.desks.iter().any(|desk| desk.owes > 0);
     tally.owing_states += u64::from(owing);
     Ok(())
@@ -274,6 +277,23 @@ pub fn check_owed(list: &[Step], section: &Section) -> Result<(), Failure> {
             );
             return fail(list, section, &claim);
         }
+    }
+    Ok(())
+}
+
+/// Tests that every refused step of the list is counted, and where it has to be.
+///
+/// # Errors
+///
+/// A count that is more or less than the refused steps that are its own.
+pub fn check_counts(list: &[Step], section: &Section) -> Result<(), Failure> {
+    let mut refused = Refused::default();
+    for step in list.iter().filter(|step| step.answer.is_err()) {
+        refused.count(refused_for(step.entry.as_ref()));
+    }
+    if section.refused != refused {
+        let claim = format!("counted {:?}, refused {refused:?}", section.refused);
+        return fail(list, section, &claim);
     }
     Ok(())
 }
@@ -423,6 +443,26 @@ mod tests {
         section.in_force = false;
         section.desks[1].holds = 0;
         assert_eq!(check_owed(&list, &section), Ok(()));
+    }
+
+    #[test]
+    fn a_wrong_count_fails() {
+        let (list, section) = run(&[
+            Entry::train(Station::B, 0, 1, 0, 0),
+            Entry::begin(),
+            Entry::meet(Station::A, Station::A, 1),
+        ]);
+        assert_eq!(check_counts(&list, &section), Ok(()));
+        let wrong: [fn(&mut Refused); 3] = [
+            |refused| refused.for_a = 1,
+            |refused| refused.for_b = 0,
+            |refused| std::mem::swap(&mut refused.for_a, &mut refused.of_none),
+        ];
+        for change in wrong {
+            let mut section = section.clone();
+            change(&mut section.refused);
+            assert!(check_counts(&list, &section).is_err());
+        }
     }
 
     #[test]

@@ -25,13 +25,15 @@ const SESSION: [&[u8]; 8] = [
 // Where the figures of a section start.
 const PRESENT: usize = 24 * 9;
 const IN_FORCE: usize = PRESENT + 1;
-const COUNT: usize = PRESENT + 2;
-const DESK_A: usize = PRESENT + 6;
+const FOR_A: usize = PRESENT + 2;
+const FOR_B: usize = FOR_A + 4;
+const OF_NONE: usize = FOR_B + 4;
+const DESK_A: usize = OF_NONE + 4;
 const DESK_B: usize = DESK_A + 13;
 
 /// The figures of a section, of which all others are 0.
 fn figures(runs: &[(usize, &[u8])]) -> Figures {
-    let mut figures = [0; 248];
+    let mut figures = [0; 256];
     for &(start, run) in runs {
         figures[start..start + run.len()].copy_from_slice(run);
     }
@@ -117,12 +119,12 @@ fn the_session_by_hand() {
             b_after_return,
         ]),
         figures(&[(0, train_2), one, in_force, a_after_train, b_after_return]),
-        // 19 is counted.
+        // 19 is counted for A.
         figures(&[
             (0, train_2),
             one,
             in_force,
-            (COUNT, &[0, 0, 0, 1]),
+            (FOR_A, &[0, 0, 0, 1]),
             a_after_train,
             b_after_return,
         ]),
@@ -131,7 +133,7 @@ fn the_session_by_hand() {
             (0, trains_3_and_2),
             (PRESENT, &[2]),
             in_force,
-            (COUNT, &[0, 0, 0, 1]),
+            (FOR_A, &[0, 0, 0, 1]),
             (DESK_A, &[0, 126, 0, 3, 2, 1, 0, 126]),
             b_after_return,
         ]),
@@ -185,7 +187,7 @@ fn bytes_refused_and_a_cut_end_by_hand() {
     let log = [
         0x00, 0x03, 1, 1, 0x01, 1, 0x3F, 2, 1, 0, 10, 1, 1, 9, 0x0F, 5, 1,
     ];
-    let of = |in_force, count| figures(&[(IN_FORCE, &[in_force, 0, 0, 0, count])]);
+    let of = |in_force, count| figures(&[(IN_FORCE, &[in_force]), (OF_NONE + 3, &[count])]);
     let mut expected = vec!["log 17".to_owned()];
     let mut add = |read: &str, answer: &str, after: &Figures| {
         expected.push(read.to_owned());
@@ -209,7 +211,7 @@ fn bytes_refused_and_a_cut_end_by_hand() {
 
 #[test]
 fn an_empty_log_by_hand() {
-    let zeros = "00".repeat(248);
+    let zeros = "00".repeat(256);
     let expected = format!("log 0\nat 0 end next 0\nvalue {zeros}\nmemory {zeros}\ncopy \n");
     assert_eq!(log_case(&[]).expected(), expected);
     assert_eq!(log_case(&[]).input(), [1, 0, 0]);
@@ -248,7 +250,7 @@ fn ill_made_sections_by_hand() {
 }
 
 #[test]
-fn form_9999_and_the_count_by_hand() {
+fn form_9999_and_a_count_at_its_largest_by_hand() {
     let through = [0x1F, 3, 1, 0, 9, 3, 1];
     let before = figures(&[(IN_FORCE, &[1]), (DESK_A, &[0, 9, 0x27, 0x0E, 11])]);
     let after = figures(&[
@@ -258,15 +260,27 @@ fn form_9999_and_the_count_by_hand() {
     ]);
     expect_step(&before, &through, "ok 9999 1 W", &after);
     let used_up = figures(&[
-        (IN_FORCE, &[1, 0xFF, 0xFF, 0xFF, 0xFE]),
+        (IN_FORCE, &[1]),
+        (FOR_A, &[0xFF, 0xFF, 0xFF, 0xFE, 0, 0, 0, 8, 0, 0, 0, 9]),
         (DESK_A, &[0, 9, 0x27, 0x0F]),
     ]);
     let counted = figures(&[
-        (IN_FORCE, &[1, 0xFF, 0xFF, 0xFF, 0xFF]),
+        (IN_FORCE, &[1]),
+        (FOR_A, &[0xFF, 0xFF, 0xFF, 0xFF, 0, 0, 0, 8, 0, 0, 0, 9]),
         (DESK_A, &[0, 9, 0x27, 0x0F]),
     ]);
     expect_step(&used_up, &through, "no 18", &counted);
     expect_step(&counted, &through, "no 18", &counted);
+    // A's count stops neither B's nor that of none.
+    let count_after = |bytes: &[u8], answer: &str, place: usize, count: u8| {
+        let mut after = counted;
+        after[place + 3] = count;
+        expect_step(&counted, bytes, answer, &after);
+    };
+    count_after(&[0x0F, 5, 2, 0, 9, 1], "no 15", FOR_B, 9);
+    count_after(&[0x83, 7, 1, 1, 0, 1], "no 22", OF_NONE, 10);
+    count_after(&[0x0F, 5, 1, 0, 9], "no 1", OF_NONE, 10);
+    count_after(&[0x0F, 5, 1, 0, 9, 4], "no 4", OF_NONE, 10);
     let mut input = vec![2];
     input.extend(counted);
     input.extend([0, 7]);
@@ -363,7 +377,7 @@ fn parsed(mut input: &[u8]) -> Vec<Case> {
                 log: bytes(&mut input),
             },
             2 => {
-                let figures: &Figures = take(&mut input, 248).try_into().unwrap();
+                let figures: &Figures = take(&mut input, 256).try_into().unwrap();
                 let section = Box::new(Section::from_figures(figures).unwrap());
                 Case::Step {
                     section,
@@ -577,7 +591,7 @@ fn the_positions_have_every_outcome() {
 #[test]
 fn the_expected_output_keeps_its_size() {
     let expected = expected(&CASES);
-    assert!(expected.len() < 700_000, "{}", expected.len());
+    assert!(expected.len() < 900_000, "{}", expected.len());
     assert!(expected.ends_with('\n'));
     let starts = ["log ", "step ", "write ", "read "];
     let started = expected

@@ -3,7 +3,7 @@
 mod common;
 
 use common::{answer, bytes_of, step_and_test, Register};
-use second::{Entry, Refusal, Section, Speed, Station};
+use second::{Entry, Refusal, Refused, Section, Speed, Station};
 use Station::{A, B};
 
 /// A's opener has reached B, which may now answer `asked` trains.
@@ -19,7 +19,7 @@ fn edge_a_no_bytes_and_map_0() {
     let mut section = Section::fresh();
     assert_eq!(step_and_test(&mut section, &[]), Err(Refusal::Cut));
     assert_eq!(step_and_test(&mut section, &[0]), Err(Refusal::NoKind));
-    assert_eq!(section.refused, 2);
+    assert_eq!(section.refused.of_none, 2);
 }
 
 #[test]
@@ -110,7 +110,11 @@ fn edge_i_resume_though_a_clear_is_owed() {
     assert_eq!(register.section.desk(B).owes, 2);
     register.accept(Entry::resume());
     let expected = Section {
-        refused: 1,
+        // The RESUME that came too early.
+        refused: Refused {
+            of_none: 1,
+            ..Refused::default()
+        },
         ..Section::fresh()
     };
     assert_eq!(register.section, expected);

@@ -3,7 +3,7 @@
 mod common;
 
 use common::{answer, Register};
-use second::{Desk, Entry, Kind, Section, Speed, Station, Vehicle};
+use second::{Desk, Entry, Kind, Refused, Section, Speed, Station, Vehicle};
 use Station::{A, B};
 
 /// B has A's line clear enquiry and has answered with `granted` trains.
@@ -17,16 +17,35 @@ fn a_holds(granted: u8) -> Register {
 }
 
 #[test]
-fn begin_puts_the_working_in_force_and_keeps_the_count() {
+fn begin_and_resume_keep_the_three_counts_and_nothing_else() {
     let mut register = Register::fresh();
     register.refuse(7, Entry::resume());
+    register.refuse(7, Entry::meet(A, A, 1));
+    register.refuse(7, Entry::train(B, 0, 1, 0, 0));
+    register.refuse(7, Entry::open(A, 0, 1, 1, 1));
+    register.refuse(7, Entry::receive(A, 0, B, 1));
+    register.refuse(7, Entry::through(A, 0, 1));
+    let refused = Refused {
+        for_a: 3,
+        for_b: 1,
+        of_none: 2,
+    };
     register.accept(Entry::begin());
-    let expected = Section {
+    let begun = Section {
         in_force: true,
-        refused: 1,
+        refused,
         ..Section::fresh()
     };
-    assert_eq!(register.section, expected);
+    assert_eq!(register.section, begun);
+    // A clock, a form number and a count of departures that do not stay.
+    register.accept(Entry::through(A, 9, 1));
+    register.accept(Entry::receive(B, 40, A, 1));
+    register.accept(Entry::resume());
+    let resumed = Section {
+        refused,
+        ..Section::fresh()
+    };
+    assert_eq!(register.section, resumed);
 }
 
 #[test]

@@ -1,12 +1,14 @@
-//! The 248 figures of a section: each in its place, and back again.
+//! The 256 figures of a section: each in its place, and back again.
 
 use second::figures::{digest, Figures, FIGURES_LENGTH};
 use second::generator::{any_section, Generator, Options};
 use second::random::Random;
-use second::{Desk, Kind, Section, Vehicle};
+use second::{Desk, Kind, Refused, Section, Vehicle};
 
-/// Where the figures behind the 24 places start.
-const BEHIND_THE_PLACES: usize = 24 * 9;
+// Where some figures behind the 24 places stand.
+const IN_FORCE: usize = 24 * 9 + 1;
+const DESK_A: usize = IN_FORCE + 1 + 3 * 4;
+const DESK_B: usize = DESK_A + 13;
 
 /// A section with another number in every figure of its first place, its last
 /// place and its desks.
@@ -14,7 +16,11 @@ fn numbered() -> Section {
     let mut section = Section {
         present: 0x12,
         in_force: true,
-        refused: 0x1314_1516,
+        refused: Refused {
+            for_a: 0x1314_1516,
+            for_b: 0x1718_191A,
+            of_none: 0x1B1C_1D1E,
+        },
         ..Section::fresh()
     };
     section.places[0] = Vehicle {
@@ -77,6 +83,7 @@ fn every_figure_stands_in_its_place() {
     expected.extend([0; 22 * 9]);
     expected.extend([2, 0x31, 0, 0x32, 0x33, 0x34, 0x35, 0, 0x36]);
     expected.extend([0x12, 1, 0x13, 0x14, 0x15, 0x16]);
+    expected.extend([0x17, 0x18, 0x19, 0x1A, 0x1B, 0x1C, 0x1D, 0x1E]);
     expected.extend([0x41, 0x42, 0x43, 0x44, 0x45, 1, 0x46, 0x47, 1]);
     expected.extend([0x48, 0x49, 0x4A, 0x4B]);
     expected.extend([0x51, 0x52, 0x53, 0x54, 0x55, 0, 0, 0, 0]);
@@ -89,7 +96,7 @@ fn an_interval_from_minute_0_is_told_from_none() {
     let mut section = Section::fresh();
     section.desks[1].interval = Some(0);
     let figures = round_trip(&section);
-    assert_eq!(figures[BEHIND_THE_PLACES + 6 + 13 + 5], 1);
+    assert_eq!(figures[DESK_B + 5], 1);
 }
 
 #[test]
@@ -100,9 +107,14 @@ fn any_section_and_what_a_step_makes_of_it() {
         let before = round_trip(&section);
         let mut generator = Generator::at(section, random.word(), Options::default());
         generator.next_step();
-        // A step is accepted or counted, unless the count stands at its end.
+        // A step is accepted or counted, unless its count stands at its end.
         let after = round_trip(generator.section());
-        if generator.section().refused != u32::MAX {
+        let Refused {
+            for_a,
+            for_b,
+            of_none,
+        } = generator.section().refused;
+        if ![for_a, for_b, of_none].contains(&u32::MAX) {
             assert_ne!(digest(&before), digest(&after));
         }
     }
@@ -172,11 +184,12 @@ fn bytes_that_are_no_section() {
     // An OPEN with 0 in every other figure.
     assert_eq!(altered(9, 2), None);
     // Met, in force, interval running, out: neither 0 nor 1.
-    for place in [7, 217, 222 + 5, 222 + 8, 235 + 5, 235 + 8] {
+    let [a, b] = [DESK_A, DESK_B];
+    for place in [7, IN_FORCE, a + 5, a + 8, b + 5, b + 8] {
         assert_eq!(altered(place, 2), None, "figure {place}");
         assert_eq!(altered(place, 255), None, "figure {place}");
     }
     // A minute of an interval that does not run.
-    assert_eq!(altered(235 + 7, 1), None);
-    assert_eq!(altered(222 + 5, 0), None);
+    assert_eq!(altered(b + 7, 1), None);
+    assert_eq!(altered(a + 5, 0), None);
 }

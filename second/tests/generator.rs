@@ -1,12 +1,13 @@
 //! What the generator reaches, and the generator as a program.
 
-use std::collections::BTreeSet;
+use std::collections::{BTreeMap, BTreeSet};
 use std::process::{Command, Output};
 use std::sync::LazyLock;
 
 use second::generator::{log, Options};
 use second::{
-    list, Accepted, Entry, Kind, Line, Refusal, Run, Section, Speed, Station, LONGEST_LOG,
+    entry_length, list, Accepted, Entry, Kind, Line, Refusal, Run, Section, Speed, Station,
+    LONGEST_LOG,
 };
 
 /// Logs of the lister's size: these six have to be enough for all claims.
@@ -178,7 +179,7 @@ fn name_entry(
             let owes = before.desks.iter().any(|desk| desk.owes > 0);
             name(owes, "resumed though a clear is owed");
         }
-        Kind::Begin => name(before.refused > 0, "begun with refusals counted"),
+        Kind::Begin => name(before.refused.total() > 0, "begun with refusals counted"),
     }
 }
 
@@ -251,10 +252,85 @@ fn every_log_is_listed_line_by_line() {
         let listing = list(log);
         let run: Vec<Line> = Run::new(log).collect();
         assert_eq!(listing.lines().count(), run.len() + 1);
-        let refused = run.iter().filter(|line| line.answer.is_err()).count();
-        let accepted = run.len() - refused;
-        let end = format!("end {} {accepted} {refused} ", run.len());
-        assert!(listing.lines().last().unwrap().starts_with(&end));
+        let accepted = run.iter().filter(|line| line.answer.is_ok()).count();
+        let end = listing.lines().last().unwrap();
+        let figures: Vec<usize> = end
+            .strip_prefix("end ")
+            .unwrap()
+            .split(' ')
+            .map(|figure| figure.parse().unwrap())
+            .collect();
+        assert_eq!(figures.len(), 10);
+        assert_eq!(figures[..2], [run.len(), accepted]);
+        assert_eq!(figures[0], figures[1..5].iter().sum::<usize>());
+    }
+}
+
+/// The refusals whose count is easily mistaken, by what the bytes show: with 7 the
+/// kind and the station, with 22 the station that the MEET names, with 1 and 4
+/// the station, which is not counted. None where the count is plain.
+fn easily_miscounted(refusal: u8, bytes: &[u8]) -> Option<String> {
+    let &[map, kind, station, ..] = bytes else {
+        return None;
+    };
+    let letter = Station::from_number(station)?.letter();
+    let meets = kind == Kind::Meet.number();
+    match refusal {
+        7 if meets => Some(format!("7 of a MEET naming {letter}")),
+        7 => Some(format!("7 of {letter}")),
+        22 => Some(format!("22 of a MEET naming {letter}")),
+        1 | 4 if map & 3 == 3 => Some(format!("{refusal} showing {letter}")),
+        _ => None,
+    }
+}
+
+/// How often each of them stands in a log.
+fn easily_miscounted_in(log: &[u8]) -> BTreeMap<String, usize> {
+    let mut found = BTreeMap::new();
+    let mut rest = log;
+    for line in Run::new(log) {
+        let (bytes, behind) = rest.split_at(entry_length(rest[0]).min(rest.len()));
+        rest = behind;
+        if let Err(refusal) = line.answer {
+            if let Some(name) = easily_miscounted(refusal.number(), bytes) {
+                *found.entry(name).or_default() += 1;
+            }
+        }
+    }
+    found
+}
+
+#[test]
+fn refusals_that_are_easily_miscounted_come_often() {
+    let mut found: BTreeMap<String, usize> = BTreeMap::new();
+    for seed in 1..=48 {
+        for (name, times) in easily_miscounted_in(&log(seed, 300, Options::default())) {
+            *found.entry(name).or_default() += times;
+        }
+    }
+    for letter in ["A", "B"] {
+        for (sort, least) in [
+            ("7 of a MEET naming", 3),
+            ("7 of", 20),
+            ("22 of a MEET naming", 50),
+            ("1 showing", 3),
+            ("4 showing", 30),
+        ] {
+            let name = format!("{sort} {letter}");
+            let times = found.get(&name).copied().unwrap_or(0);
+            assert!(times >= least, "{name}: {times}");
+        }
+    }
+}
+
+/// A log of some length tells the three counts apart.
+#[test]
+fn every_count_grows_in_every_log() {
+    for seed in 1..=48 {
+        let log = log(seed, 300, Options::default());
+        let refused = Run::new(&log).finish().refused;
+        let counts = [refused.for_a, refused.for_b, refused.of_none];
+        assert!(!counts.contains(&0), "seed {seed}: {refused:?}");
     }
 }
 

@@ -7,7 +7,7 @@ use std::collections::BTreeSet;
 use common::{bytes_of, step_and_test, Register};
 use second::generator::{any_section, Generator, Options};
 use second::random::Random;
-use second::{encode, Entry, Kind, Refusal, Section, Station, Writer};
+use second::{encode, Entry, Kind, Refusal, Refused, Station, Writer};
 use Station::{A, B};
 
 #[track_caller]
@@ -271,7 +271,7 @@ fn refusal_5_comes_first_and_alters_nothing() {
         let answer = step_and_test(&mut ill_made, bytes);
         assert_eq!(answer, Err(Refusal::IllMade));
     }
-    assert_eq!(ill_made.refused, 0);
+    assert_eq!(ill_made.refused, Refused::default());
 }
 
 #[test]
@@ -292,23 +292,6 @@ fn refusal_23_leaves_the_buffer_alone() {
     assert_eq!(writer.append(&entry), Err(Refusal::BufferTooShort));
     assert_eq!(writer.position(), 3);
     assert_eq!(log, [0xEE; 10]);
-}
-
-#[test]
-fn the_count_stops_at_its_largest_value() {
-    let mut register = Register::begun();
-    register.section.refused = u32::MAX - 1;
-    register.refuse(6, Entry::begin());
-    assert_eq!(register.section.refused, u32::MAX);
-    register.refuse(6, Entry::begin());
-    refuse_bytes(&mut register, 1, &[]);
-    assert_eq!(register.section.refused, u32::MAX);
-    register.accept(Entry::resume());
-    let expected = Section {
-        refused: u32::MAX,
-        ..Section::fresh()
-    };
-    assert_eq!(register.section, expected);
 }
 
 #[test]

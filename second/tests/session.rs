@@ -25,7 +25,7 @@ const LISTING: &str = "\
 6 5 A ok 2 168 B
 7 5 A no 19
 8 5 A ok 3 104 25
-end 8 7 1 2 0 0 0 2
+end 8 7 1 0 0 2 0 0 0 2
 ";
 
 fn run_lister(arguments: &[&str], log: &[u8]) -> Output {
@@ -95,7 +95,7 @@ fn the_program_takes_the_longest_log_and_no_longer() {
     expect_listing(&log[..LONGEST_LOG], &list(&log[..LONGEST_LOG]));
     expect_listing(&log, "long\n");
     expect_listing(&vec![0; 10 * LONGEST_LOG], "long\n");
-    expect_listing(&[], "end 0 0 0 0 0 0 0 0\n");
+    expect_listing(&[], "end 0 0 0 0 0 0 0 0 0 0\n");
 }
 
 #[test]

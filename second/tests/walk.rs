@@ -111,6 +111,21 @@ fn a_figure_that_remembers_the_order_is_caught() {
 }
 
 #[test]
+fn a_meeting_counted_for_its_station_is_caught() {
+    let stepper = |section: &mut Section, bytes: &[u8]| -> Answer {
+        let mut refused = section.refused;
+        let answer = step_in_place(section, bytes);
+        if let (Ok(entry), Err(_)) = (decode(bytes), answer) {
+            refused.count(Station::from_number(entry.station));
+            section.refused = refused;
+        }
+        answer
+    };
+    let message = walk_with(&stepper, 1, 20_000).expect_err("the slip is to be caught");
+    is_caught_as(&message.0, "counted");
+}
+
+#[test]
 fn an_ill_made_section_is_caught() {
     let message = walk_with_slip(|section, _, station| {
         section.desk_mut(station).sent += 1;

@@ -1,6 +1,6 @@
 //! Each clause of the well-made section, kept and broken.
 
-use second::{step, Desk, Kind, Refusal, Section, Station, Vehicle};
+use second::{step, Desk, Kind, Refusal, Refused, Section, Station, Vehicle};
 use Station::{A, B};
 
 const BEGIN: [u8; 2] = [1, 1];
@@ -232,9 +232,13 @@ fn twelve_vehicles_from_each_station_are_well_made() {
 }
 
 #[test]
-fn not_in_force_all_but_the_count_is_fresh() {
+fn not_in_force_all_but_the_counts_is_fresh() {
     let fresh = Section {
-        refused: 77,
+        refused: Refused {
+            for_a: 77,
+            for_b: u32::MAX,
+            of_none: 1,
+        },
         ..Section::fresh()
     };
     is_well_made(&fresh);

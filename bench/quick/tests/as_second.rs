@@ -9,15 +9,16 @@ use second::{Reader, Refusal, Run};
 /// What stands in a buffer before it is lent.
 const BEFORE: u8 = 0xAA;
 
-fn figures_by_second(log: &[u8]) -> [u64; 8] {
+fn figures_by_second(log: &[u8]) -> [u64; 10] {
     let entries = Run::new(log).count() as u64;
     let section = Run::new(log).finish();
-    let refused = u64::from(section.refused);
     let [a, b] = &section.desks;
     [
         entries,
-        entries - refused,
-        refused,
+        entries - section.refused.total(),
+        section.refused.for_a.into(),
+        section.refused.for_b.into(),
+        section.refused.of_none.into(),
         section.present as u64,
         a.holds.into(),
         a.owes.into(),
@@ -116,7 +117,7 @@ fn noise() {
 }
 
 /// Entries of every map that is one of some kind, their fields from just below
-/// the ranges to just above.
+/// the ranges to just above, in force and not.
 #[test]
 fn entries_at_their_ranges() {
     const MAPS: [u8; 13] = [
@@ -125,7 +126,11 @@ fn entries_at_their_ranges() {
     const KINDS: [u8; 13] = [1, 2, 3, 4, 4, 4, 4, 5, 5, 5, 5, 6, 7];
     let mut random = Random::new(3);
     for _ in 0..3_000 {
-        let mut log = vec![1, 1];
+        let mut log = if random.chance(80) {
+            vec![1, 1]
+        } else {
+            Vec::new()
+        };
         for _ in 0..random.below(30) {
             let which = random.below(13) as usize;
             let map = MAPS[which];

@@ -1,5 +1,6 @@
 //! Logs read and stepped from the fresh section.
 
+use super::counts::no_entries_of;
 use super::{Case, NO_ENTRIES, SESSION};
 use crate::entry::{Entry, Kind};
 use crate::generator::{self, bytes_of, Options};
@@ -22,6 +23,7 @@ pub(super) fn cases() -> Vec<Case> {
     logs.push(edges());
     logs.extend(bytes_refused());
     logs.extend(cut());
+    logs.extend(Station::BOTH.map(counted));
     logs.extend(generated());
     logs.into_iter().map(|log| Case::Log { log }).collect()
 }
@@ -406,6 +408,36 @@ fn cut() -> Vec<Vec<u8>> {
     logs
 }
 
+/// Refused entries of A, of B and of no station, another number of each, and a
+/// cut end that shows a station.
+fn counted(cut_at: Station) -> Vec<u8> {
+    let mut log = written(&[
+        // 7
+        Entry::meet(A, A, 1),
+        Entry::meet(B, A, 1),
+        Entry::train(A, 0, 1, 0, 0),
+        Entry::receive(B, 0, A, 1),
+        Entry::begin(),
+        // 15, 14, 20 and 22
+        Entry::train(B, 0, 1, 0, 0),
+        Entry::send_back(B, 0, 0, 0),
+        Entry::receive(A, 0, B, 1),
+        Entry::receive(B, 0, B, 1),
+        Entry::meet(A, A, 1),
+        Entry::meet(B, B, 1),
+        // Both keep the counts.
+        Entry::resume(),
+        Entry::begin(),
+    ]);
+    for station in Station::BOTH {
+        let [_, whole @ ..] = no_entries_of(station);
+        log.extend(whole.concat());
+    }
+    let [cut, ..] = no_entries_of(cut_at);
+    log.extend(cut);
+    log
+}
+
 fn generated() -> Vec<Vec<u8>> {
     let strewn = SEEDS.map(|seed| generator::log(seed, ENTRIES, Options::default()));
     let accepted = ACCEPTED_SEEDS.map(|seed| {
@@ -423,6 +455,7 @@ fn generated() -> Vec<Vec<u8>> {
 mod tests {
     use super::*;
     use crate::log::Run;
+    use crate::section::Refused;
 
     fn answers(log: &[u8]) -> Vec<(u8, u8)> {
         Run::new(log)
@@ -484,6 +517,24 @@ mod tests {
         for log in cut() {
             let last = *answers(&log).last().unwrap();
             assert_eq!(last, (0, 1), "{log:?}");
+        }
+    }
+
+    #[test]
+    fn counted_logs_have_refused_entries_of_each_sort() {
+        let expected = [
+            7, 7, 7, 7, 0, 15, 14, 20, 20, 22, 22, 0, 0, 2, 3, 4, 2, 3, 4, 1,
+        ];
+        for station in Station::BOTH {
+            let log = counted(station);
+            let numbers: Vec<u8> = answers(&log).iter().map(|answer| answer.1).collect();
+            assert_eq!(numbers, expected);
+            let refused = Refused {
+                for_a: 2,
+                for_b: 4,
+                of_none: 11,
+            };
+            assert_eq!(Run::new(&log).finish().refused, refused);
         }
     }
 

@@ -7,6 +7,7 @@
 //! write, computed here with the reader, the writer and the two forms of the
 //! step of this crate.
 
+mod counts;
 mod logs;
 mod positions;
 mod sections;

@@ -2,23 +2,30 @@
 
 use std::collections::BTreeMap;
 
+use super::counts::{self, DISTINCT};
 use super::{Case, LONGEST, NO_ENTRIES};
 use crate::entry::{decode, Entry, Kind};
 use crate::generator::{any_section, bytes_of, Generator, Options};
 use crate::random::Random;
 use crate::refusal::Refusal;
 use crate::section::Station::{A, B};
-use crate::section::{Desk, Section, Station, Vehicle};
+use crate::section::{Desk, Refused, Section, Station, Vehicle};
 use crate::step::step;
 
 /// A section and the bytes handed to the step with it.
-type Handed = (Section, Vec<u8>);
+pub(super) type Handed = (Section, Vec<u8>);
 
 /// What makes a vehicle ill made.
 type Alteration = fn(&mut Vehicle);
 
 /// The kinds of departure, by which a vehicle can have left.
 const DEPARTURES: [Kind; 4] = [Kind::Open, Kind::Through, Kind::Return, Kind::Train];
+
+const ALL_AT_THEIR_LARGEST: Refused = Refused {
+    for_a: u32::MAX,
+    for_b: u32::MAX,
+    of_none: u32::MAX,
+};
 
 pub(super) fn cases() -> Vec<Case> {
     let mut handed = ill_made();
@@ -27,7 +34,7 @@ pub(super) fn cases() -> Vec<Case> {
     handed.extend(desks_at_their_limits());
     handed.extend(receipts());
     handed.extend(meetings());
-    handed.extend(counts());
+    handed.extend(counts::handed());
     handed.extend(edges());
     handed.extend(strewn());
     let case = |(section, bytes)| Case::Step {
@@ -37,7 +44,7 @@ pub(super) fn cases() -> Vec<Case> {
     handed.into_iter().map(case).collect()
 }
 
-fn hand(section: Section, entry: &Entry) -> Handed {
+pub(super) fn hand(section: Section, entry: &Entry) -> Handed {
     (section, bytes_of(entry))
 }
 
@@ -69,7 +76,7 @@ fn turned(kind: Kind, sender: Station, form: u16, heading: Station) -> Vehicle {
 }
 
 /// The section in force with nothing else in it.
-fn begun() -> Section {
+pub(super) fn begun() -> Section {
     Section {
         in_force: true,
         ..Section::fresh()
@@ -83,8 +90,8 @@ fn put_vehicles(section: &mut Section, vehicles: &[Vehicle]) {
 
 /// A section in the middle of its work: a vehicle of each kind from either
 /// station, and desks with no figure at its least or largest. It is well made
-/// and accepts [`FOR_WORKING`].
-fn working() -> Section {
+/// and accepts [`working_meeting`], [`working_receipt`] and [`working_train`].
+pub(super) fn working() -> Section {
     let mut section = begun();
     let vehicles = [
         vehicle(Kind::Open, A, 7),
@@ -97,7 +104,7 @@ fn working() -> Section {
         vehicle(Kind::Through, B, 8),
     ];
     put_vehicles(&mut section, &vehicles);
-    section.refused = 3;
+    section.refused = DISTINCT;
     section.desks = [Desk {
         clock: 500,
         last_form: 40,
@@ -112,11 +119,11 @@ fn working() -> Section {
     section
 }
 
-fn working_meeting() -> Entry {
+pub(super) fn working_meeting() -> Entry {
     Entry::meet(A, A, 9)
 }
 
-fn working_receipt(station: Station) -> Entry {
+pub(super) fn working_receipt(station: Station) -> Entry {
     let form = match station {
         A => 7,
         B => 8,
@@ -124,11 +131,11 @@ fn working_receipt(station: Station) -> Entry {
     Entry::receive(station, 500, station, form)
 }
 
-fn working_train(station: Station) -> Entry {
+pub(super) fn working_train(station: Station) -> Entry {
     Entry::train(station, 510, 1, 0, 0)
 }
 
-fn with_desk(station: Station, change: impl Fn(&mut Desk)) -> Section {
+pub(super) fn with_desk(station: Station, change: impl Fn(&mut Desk)) -> Section {
     let mut section = working();
     change(section.desk_mut(station));
     section
@@ -375,7 +382,7 @@ fn ill_made_places() -> Vec<Handed> {
     handed
 }
 
-/// Not in force, yet something beside the count is not as fresh. BEGIN would
+/// Not in force, yet something beside the counts is not as fresh. BEGIN would
 /// wipe it out.
 fn not_in_force() -> Vec<Handed> {
     let mut sections = Vec::new();
@@ -393,7 +400,7 @@ fn not_in_force() -> Vec<Handed> {
     for station in Station::BOTH {
         for alteration in alterations {
             let mut section = Section {
-                refused: 7,
+                refused: DISTINCT,
                 ..Section::fresh()
             };
             alteration(section.desk_mut(station));
@@ -427,7 +434,7 @@ fn ill_made_before_all_else() -> Vec<Handed> {
     let sections = [
         with_desk(B, |desk| desk.sent = 13),
         Section {
-            refused: u32::MAX,
+            refused: ALL_AT_THEIR_LARGEST,
             ..with_vehicle(Kind::Train, A, |vehicle| vehicle.met = true)
         },
         Section {
@@ -481,7 +488,7 @@ fn crammed() -> Section {
     };
     let vehicles: Vec<Vehicle> = of(A).chain(of(B).rev()).collect();
     put_vehicles(&mut section, &vehicles);
-    section.refused = u32::MAX;
+    section.refused = ALL_AT_THEIR_LARGEST;
     section.desks = [Desk {
         clock: u16::MAX,
         last_form: Section::LAST_FORM,
@@ -865,41 +872,6 @@ fn meetings() -> Vec<Handed> {
     handed
 }
 
-/// The count of refused entries at its largest value and just below it.
-fn counts() -> Vec<Handed> {
-    let mut handed = Vec::new();
-    for refused in [u32::MAX - 1, u32::MAX] {
-        let fresh = Section {
-            refused,
-            ..Section::fresh()
-        };
-        let begun = Section { refused, ..begun() };
-        let working = Section {
-            refused,
-            ..working()
-        };
-        handed.extend([
-            hand(fresh.clone(), &Entry::resume()),
-            hand(begun.clone(), &Entry::begin()),
-            (working.clone(), Vec::new()),
-            (working.clone(), NO_ENTRIES[0].1.to_vec()),
-            (working.clone(), NO_ENTRIES[1].1.to_vec()),
-            (working.clone(), NO_ENTRIES[2].1.to_vec()),
-            // Accepted entries leave it alone, also those that begin afresh.
-            hand(fresh, &Entry::begin()),
-            hand(begun, &Entry::resume()),
-            hand(working, &working_meeting()),
-        ]);
-    }
-    // A carry into the highest byte.
-    let section = Section {
-        refused: 0x00FF_FFFF,
-        ..begun()
-    };
-    handed.push((section, NO_ENTRIES[0].1.to_vec()));
-    handed
-}
-
 /// The edges of the document that no log reaches, or only a long one; (f) stands
 /// with the desks at their limits, the others in the logs.
 fn edges() -> Vec<Handed> {
@@ -1041,7 +1013,6 @@ mod tests {
             desks_at_their_limits(),
             receipts(),
             meetings(),
-            counts(),
             edges(),
             strewn(),
         ];
@@ -1079,8 +1050,6 @@ mod tests {
             0, 0, 22, 22, 22, 22, 0, 0, 22, 22, 22, 22, 22, 0, 0, 0, 0, 22, 22, 22, 22, 22, 22, 22,
         ];
         assert_eq!(answers(&meetings()), meeting);
-        let count = [7, 6, 1, 2, 3, 4, 0, 0, 0];
-        assert_eq!(answers(&counts()), [&count[..], &count, &[2]].concat());
         assert_eq!(answers(&edges()), [1, 2, 1, 2, 0, 17, 0]);
     }
 

@@ -11,11 +11,11 @@ use Rattle.working.proofs.Tests.{none-holds, none-of-both}
 use Rattle.working.specs.Acts as acts
 use Rattle.working.specs.Acts.{Act}
 use Rattle.working.specs.Effects.{Plan, broughtClears, effectOf, nextForm, openedClears, otherDesk, ownDesk, vehicleFor}
-use Rattle.working.specs.Events.{At, Begin, Event, Meet, Resume, stationOf}
+use Rattle.working.specs.Events.{At, Begin, Event, Meet, Resume, Says, stationOf}
 use Rattle.working.specs.Reasons.{beginTests, findOf, lastTests, mayMeet, openTests, receiveTests, resumeTests, returnTests, stationTests, testsOf, trainTests}
 use Rattle.working.specs.Refusals.{Test, firstOf}
 use Rattle.working.specs.Sections.{countRefusal, deskOf, emptied, insertAt, nearestAt, vehiclesOf, withDesk, withVehicles}
-use Rattle.working.specs.Steps.{entered, metAt, planOf, settled, unlessRefused}
+use Rattle.working.specs.Steps.{entered, metAt, planOf, settled, unlessRefused, whoseIs}
 use Rattle.working.specs.declared.Answer.the-variants.{Accepted}
 use Rattle.working.specs.declared.Answer.{Answer}
 use Rattle.working.specs.declared.Clears.{Clears}
@@ -32,6 +32,8 @@ use Rattle.working.specs.declared.Station.{Station}
 use Rattle.working.specs.declared.Vehicle.{Vehicle}
 use Rattle.working.specs.declared.Verdict.the-variants.{Allowed, Refused}
 use Rattle.working.specs.declared.Verdict.{Verdict}
+use Rattle.working.specs.declared.Whose.the-variants.{NoStation, Of}
+use Rattle.working.specs.declared.Whose.{Whose}
 use mathlib.Core.Bool.{Bool, false, not, true}
 use mathlib.Core.List.{List, [], _++_, _∷_}
 use mathlib.Core.Path.{_∙_, _≡_, ap, ap₂, refl, subst, sym}
@@ -121,31 +123,36 @@ eventBy e act = At (stationOf (e .station)) (e .time) act
 
 module _ {w w₁ : List ℕ} {e : Entry} {act : Act} {given : Answer} where
   -- the act comes to a plan by what all its tests come to, and the code's names are the definition's
-  enters-by : (l : Looked w e) (v : Verdict) → firstOf (stationBy l ++ ownBy l act) ≡ v → Does w (l .at) (unlessRefused v (effectBy l act)) given w₁
-      → Enters w (eventBy e act) given w₁
+  enters-by : (l : Looked w e) (v : Verdict) → firstOf (stationBy l ++ ownBy l act) ≡ v
+      → Does w (eventBy e act) (l .at) (unlessRefused v (effectBy l act)) given w₁ → Enters w (eventBy e act) given w₁
   unfolding entered
   enters-by l v is does =
       let s = sectionIn w in
       let x = l .at in
       let plan : Station → Bool → Desk → Plan = λ z force d. planOf act z force d (e .time) (nearestAt z (vehiclesOf s)) in
-      let code : Does w x (plan x (l .force) (l .desk)) given w₁ = rw (tests-are, is) does in
-      let forced : Does w x (plan x (s .force) (l .desk)) given w₁ = subst (λ (f : Bool). Does w x (plan x f (l .desk)) given w₁) (l .force-is) code in
-      let desked : Does w x (plan x (s .force) (deskOf s x)) given w₁ = subst (λ (d : Desk). Does w x (plan x (s .force) d) given w₁) (l .desk-is) forced in
-      let named = subst (λ (z : Station). Does w z (plan z (s .force) (deskOf s z)) given w₁) (l .at-is) desked in
+      let done : Station → Plan → Type 0 = λ z p. Does w (eventBy e act) z p given w₁ in
+      let code : done x (plan x (l .force) (l .desk)) = rw (tests-are, is) does in
+      let forced : done x (plan x (s .force) (l .desk)) = subst (λ (f : Bool). done x (plan x f (l .desk))) (l .force-is) code in
+      let desked : done x (plan x (s .force) (deskOf s x)) = subst (λ (d : Desk). done x (plan x (s .force) d)) (l .desk-is) forced in
+      let named = subst (λ (z : Station). done z (plan z (s .force) (deskOf s z))) (l .at-is) desked in
       record { answer = named .answer; words = named .words }
 
-  refused-by : (l : Looked w e) {why : Refusal} → firstOf (stationBy l ++ ownBy l act) ≡ Refused why → Refuses w why given w₁ → Enters w (eventBy e act) given w₁
-  refused-by l {why} is refuses = enters-by l (Refused why) is (record { answer = refuses .answer; words = refuses .words })
+  -- a refusal is the station's that the entry names
+  refused-by : (l : Looked w e) {why : Refusal} → firstOf (stationBy l ++ ownBy l act) ≡ Refused why → Refuses w (Of (l .at)) why given w₁ → Enters w (eventBy e act) given w₁
+  refused-by l {why} is refuses =
+      let theirs = subst (λ (z : Station). Becomes w w₁ (countRefusal (Of z) (sectionIn w)) (startIn w)) (l .at-is) (refuses .words) in
+      enters-by l (Refused why) is (record { answer = refuses .answer; words = theirs })
 
   -- refused with 7 or 9
-  pub first-refused : (l : Looked w e) {why : Refusal} → l .verdict ≡ Refused why → Refuses w why given w₁ → Enters w (eventBy e act) given w₁
+  pub first-refused : (l : Looked w e) {why : Refusal} → l .verdict ≡ Refused why → Refuses w (Of (l .at)) why given w₁ → Enters w (eventBy e act) given w₁
   first-refused l is = refused-by l (first-refuses (stationBy l) (ownBy l act) (sym (l .verdict-is) ∙ is))
 
   -- or by its own tests, or carried out
-  pub own-refused : (p : Passed w e act) {why : Refusal} → p .own ≡ Refused why → Refuses w why given w₁ → Enters w (eventBy e act) given w₁
+  pub own-refused : (p : Passed w e act) {why : Refusal} → p .own ≡ Refused why → Refuses w (Of (p .looked .at)) why given w₁ → Enters w (eventBy e act) given w₁
   own-refused p is = refused-by (p .looked) (decides p ∙ is)
 
-  pub act-done : (p : Passed w e act) → p .own ≡ Allowed → Does w (p .looked .at) (effectBy (p .looked) act) given w₁ → Enters w (eventBy e act) given w₁
+  pub act-done : (p : Passed w e act) → p .own ≡ Allowed → Does w (eventBy e act) (p .looked .at) (effectBy (p .looked) act) given w₁
+      → Enters w (eventBy e act) given w₁
   act-done p is = enters-by (p .looked) Allowed (decides p ∙ is)
 
 -- a departure that no test refuses has a form number left, and room for one more sent
@@ -208,15 +215,21 @@ abbrev pub declaring : Bool → Event
 declaring true = Begin
 declaring false = Resume
 
+of-no-station : (force : Bool) → whoseIs (Says (declaring force)) ≡ NoStation
+of-no-station true = refl
+of-no-station false = refl
+
 module _ {w w₁ : List ℕ} {given : Answer} where
-  declares-by : (force : Bool) (v : Verdict) → let s = sectionIn w in firstOf (declaredTests force s) ≡ v → given ≡ settled s v (emptied force (s .refused)) .answer
-      → Becomes w w₁ (settled s v (emptied force (s .refused)) .section) (startIfAnew v (startIn w)) → Enters w (declaring force) given w₁
+  declares-by : (force : Bool) (v : Verdict) → let s = sectionIn w in let t = settled s (Says (declaring force)) v (emptied force (s .refused)) in
+      firstOf (declaredTests force s) ≡ v → given ≡ t .answer → Becomes w w₁ (t .section) (startIfAnew v (startIn w)) → Enters w (declaring force) given w₁
   unfolding entered
   declares-by true v is answer words = record { answer = rw is answer; words = rw is words }
   declares-by false v is answer words = record { answer = rw is answer; words = rw is words }
 
-  pub declared-refused : (force : Bool) {why : Refusal} → firstOf (declaredTests force (sectionIn w)) ≡ Refused why → Refuses w why given w₁ → Enters w (declaring force) given w₁
-  declared-refused force {why} is refuses = declares-by force (Refused why) is (refuses .answer) (refuses .words)
+  pub declared-refused : (force : Bool) {why : Refusal} → firstOf (declaredTests force (sectionIn w)) ≡ Refused why → Refuses w NoStation why given w₁ → Enters w (declaring force) given w₁
+  declared-refused force {why} is refuses =
+      let nobodys = subst (λ (z : Whose). Becomes w w₁ (countRefusal z (sectionIn w)) (startIn w)) (sym (of-no-station force)) (refuses .words) in
+      declares-by force (Refused why) is (refuses .answer) nobodys
 
   pub declared-allowed : (force : Bool) → firstOf (declaredTests force (sectionIn w)) ≡ Allowed → given ≡ Accepted 0 0 NoSpeed
       → Becomes w w₁ (emptied force (sectionIn w .refused)) 0 → Enters w (declaring force) given w₁
@@ -232,27 +245,28 @@ module _ (w : List ℕ) (x sender : Station) (form : ℕ) where
   place = findOf sender form (vehiclesOf (sectionIn w))
 
   meet-by : {w₁ : List ℕ} {given : Answer} (v : Verdict) → meetVerdict (sectionIn w .force) (mayMeet (vehiclesOf (sectionIn w)) place) ≡ v
-      → given ≡ settled (sectionIn w) v (withVehicles (sectionIn w) (metAt x place (vehiclesOf (sectionIn w)))) .answer
-      → Becomes w w₁ (settled (sectionIn w) v (withVehicles (sectionIn w) (metAt x place (vehiclesOf (sectionIn w)))) .section) (startIn w)
+      → given ≡ settled (sectionIn w) (Says (Meet x sender form)) v (withVehicles (sectionIn w) (metAt x place (vehiclesOf (sectionIn w)))) .answer
+      → Becomes w w₁ (settled (sectionIn w) (Says (Meet x sender form)) v (withVehicles (sectionIn w) (metAt x place (vehiclesOf (sectionIn w)))) .section) (startIn w)
       → Enters w (Meet x sender form) given w₁
   unfolding entered
   meet-by {w₁} v is answer words =
       let s = sectionIn w in
       let t = withVehicles s (metAt x place (vehiclesOf s)) in
       record {
-        answer = answer ∙ ap (λ (u : Verdict). settled s u t .answer) (sym is);
-        words = subst (λ (u : Verdict). Becomes w w₁ (settled s u t .section) (startIn w)) (sym is) words;
+        answer = answer ∙ ap (λ (u : Verdict). settled s (Says (Meet x sender form)) u t .answer) (sym is);
+        words = subst (λ (u : Verdict). Becomes w w₁ (settled s (Says (Meet x sender form)) u t .section) (startIn w)) (sym is) words;
       }
 
-  pub meet-out-of-force : {w₁ : List ℕ} {given : Answer} → sectionIn w .force ≡ false → Refuses w NotInForce given w₁ → Enters w (Meet x sender form) given w₁
+  pub meet-out-of-force : {w₁ : List ℕ} {given : Answer} → sectionIn w .force ≡ false → Refuses w NoStation NotInForce given w₁ → Enters w (Meet x sender form) given w₁
   meet-out-of-force off refuses =
       meet-by (Refused NotInForce) (ap (λ (b : Bool). meetVerdict b (mayMeet (vehiclesOf (sectionIn w)) place)) off) (refuses .answer) (refuses .words)
 
-  pub meet-refused : {w₁ w₂ : List ℕ} {given : Answer} → sectionIn w .force ≡ true → Met w w₁ x sender form false → Refuses w₁ MayNotMeet given w₂
+  pub meet-refused : {w₁ w₂ : List ℕ} {given : Answer} → sectionIn w .force ≡ true → Met w w₁ x sender form false → Refuses w₁ NoStation MayNotMeet given w₂
       → Enters w (Meet x sender form) given w₂
   meet-refused {w₁} {w₂} on met refuses =
       let kept = met .words in
-      let counted : Becomes w₁ w₂ (countRefusal (sectionIn w)) (startIn w) = becomes-as (refuses .words) (ap countRefusal (kept .section)) (kept .start) in
+      let counted : Becomes w₁ w₂ (countRefusal NoStation (sectionIn w)) (startIn w) =
+          becomes-as (refuses .words) (ap (countRefusal NoStation) (kept .section)) (kept .start) in
       meet-by (Refused MayNotMeet) (ap₂ meetVerdict on (sym (met .may))) (refuses .answer) (becomes-then kept counted (λ less. less))
 
   pub meet-allowed : {w₁ : List ℕ} {given : Answer} → sectionIn w .force ≡ true → Met w w₁ x sender form true → given ≡ Accepted 0 0 NoSpeed

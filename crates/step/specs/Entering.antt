@@ -16,6 +16,7 @@ use Rattle.working.specs.declared.Section.{Section}
 use Rattle.working.specs.declared.Station.{Station}
 use Rattle.working.specs.declared.Verdict.the-variants.{Allowed, Refused}
 use Rattle.working.specs.declared.Verdict.{Verdict}
+use Rattle.working.specs.declared.Whose.{Whose}
 use mathlib.Core.List.{List}
 use mathlib.Core.Path.{_≡_}
 
@@ -44,14 +45,14 @@ startAnswered s (Says event) start = startAfter s event start
 
 -- ---- what is answered, and what the words become
 
-pub record Refuses (before : List ℕ) (why : Refusal) (given : Answer) (after : List ℕ) : Type 0 where
+pub record Refuses (before : List ℕ) (whose : Whose) (why : Refusal) (given : Answer) (after : List ℕ) : Type 0 where
   pub answer : given ≡ answer.Refused why
-  pub words : Becomes before after (countRefusal (sectionIn before)) (startIn before)
+  pub words : Becomes before after (countRefusal whose (sectionIn before)) (startIn before)
 
 -- a station's act that comes to a plan
-pub record Does (before : List ℕ) (x : Station) (plan : Plan) (given : Answer) (after : List ℕ) : Type 0 where
-  pub answer : given ≡ doneBy (sectionIn before) x plan .answer
-  pub words : Becomes before after (doneBy (sectionIn before) x plan .section) (startBy x plan (startIn before))
+pub record Does (before : List ℕ) (event : Event) (x : Station) (plan : Plan) (given : Answer) (after : List ℕ) : Type 0 where
+  pub answer : given ≡ doneBy (sectionIn before) (Says event) x plan .answer
+  pub words : Becomes before after (doneBy (sectionIn before) (Says event) x plan .section) (startBy x plan (startIn before))
 
 pub record Enters (before : List ℕ) (event : Event) (given : Answer) (after : List ℕ) : Type 0 where
   pub answer : given ≡ entered (sectionIn before) event .answer

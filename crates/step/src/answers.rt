@@ -8,12 +8,13 @@ use words::count_refusal;
 use working::Answer;
 use working::Refusal;
 use working::Speed;
+use working::Whose;
 
-// A refusal: one more in the count, and nothing else altered.
-pub(crate) fn refuse(words: &mut Words, why: Refusal) -> Answer
-    ensures { λ r. ⌜ Refuses (now (words .entry)) why r (now (words .exit)) ⌝ }
+// A refusal: one more in the count of those whose it is, and nothing else altered.
+pub(crate) fn refuse(words: &mut Words, whose: Whose, why: Refusal) -> Answer
+    ensures { λ r. ⌜ Refuses (now (words .entry)) whose why r (now (words .exit)) ⌝ }
 {
-    count_refusal(words);
+    count_refusal(words, whose);
     Answer::Refused(why)
 }
 

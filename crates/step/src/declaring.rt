@@ -1,4 +1,4 @@
-// BEGIN, MEET and RESUME, which stand apart from the desks.
+// BEGIN, MEET and RESUME, which stand apart from the desks; their refusals are of no station.
 ghost use Rattle.step.specs.Entering.{Enters};
 ghost use Rattle.working.specs.Events.{Begin, Meet, Resume, stationOf};
 use crate::answers::accepted;
@@ -15,13 +15,14 @@ use working::Answer;
 use working::Entry;
 use working::Refusal;
 use working::Verdict;
+use working::Whose;
 
 pub(crate) fn enter_begin(words: &mut Words) -> Answer
     ensures { λ r. ⌜ Enters (now (words .entry)) Begin r (now (words .exit)) ⌝ }
 {
     let verdict = begin_verdict(in_force(words));
     if let Verdict::Refused(why) = verdict {
-        return refuse(words, why);
+        return refuse(words, Whose::NoStation, why);
     }
     empty(words, true);
     accepted()
@@ -32,7 +33,7 @@ pub(crate) fn enter_resume(words: &mut Words) -> Answer
 {
     let verdict = resume_verdict(in_force(words), present(words));
     if let Verdict::Refused(why) = verdict {
-        return refuse(words, why);
+        return refuse(words, Whose::NoStation, why);
     }
     empty(words, false);
     accepted()
@@ -44,10 +45,10 @@ pub(crate) fn enter_meet(words: &mut Words, e: Entry) -> Answer
     let to = station_of(e.station);
     let sender = station_of(e.sender);
     if !in_force(words) {
-        return refuse(words, Refusal::NotInForce);
+        return refuse(words, Whose::NoStation, Refusal::NotInForce);
     }
     if !meet(words, to, sender, e.number) {
-        return refuse(words, Refusal::MayNotMeet);
+        return refuse(words, Whose::NoStation, Refusal::MayNotMeet);
     }
     accepted()
 }

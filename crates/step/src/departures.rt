@@ -39,6 +39,7 @@ use working::Speed;
 use working::Station;
 use working::Vehicle;
 use working::Verdict;
+use working::Whose;
 
 // A vehicle leaves station `at`, whose desk is `d`, on its next form number, which is given: what every departure puts.
 fn depart(words: &mut Words, at: Station, time: u16, d: Desk, movement: Movement, class: u8) -> u16
@@ -61,11 +62,11 @@ pub(crate) fn enter_open(words: &mut Words, e: Entry) -> Answer
     let d = desk(words, at);
     let verdict = station_verdict(in_force(words), d, e.time);
     if let Verdict::Refused(why) = verdict {
-        return refuse(words, why);
+        return refuse(words, Whose::Of(at), why);
     }
     let own = departure_verdict(d, e.time, open_verdict(d));
     if let Verdict::Refused(why) = own {
-        return refuse(words, why);
+        return refuse(words, Whose::Of(at), why);
     }
     let movement = Movement::Open { asked: e.asked };
     let form = depart(words, at, e.time, d, movement, e.class);
@@ -86,11 +87,11 @@ pub(crate) fn enter_through(words: &mut Words, e: Entry) -> Answer
     let d = desk(words, at);
     let verdict = station_verdict(in_force(words), d, e.time);
     if let Verdict::Refused(why) = verdict {
-        return refuse(words, why);
+        return refuse(words, Whose::Of(at), why);
     }
     let own = departure_verdict(d, e.time, open_verdict(d));
     if let Verdict::Refused(why) = own {
-        return refuse(words, why);
+        return refuse(words, Whose::Of(at), why);
     }
     let form = depart(
         words,
@@ -118,11 +119,11 @@ pub(crate) fn enter_return(words: &mut Words, e: Entry) -> Answer
     let d = desk(words, at);
     let verdict = station_verdict(in_force(words), d, e.time);
     if let Verdict::Refused(why) = verdict {
-        return refuse(words, why);
+        return refuse(words, Whose::Of(at), why);
     }
     let own = departure_verdict(d, e.time, return_verdict(d, granted));
     if let Verdict::Refused(why) = own {
-        return refuse(words, why);
+        return refuse(words, Whose::Of(at), why);
     }
     let clears = d.clears;
     let form = depart(
@@ -153,11 +154,11 @@ pub(crate) fn enter_train(words: &mut Words, e: Entry) -> Answer
     let d = desk(words, at);
     let verdict = station_verdict(in_force(words), d, e.time);
     if let Verdict::Refused(why) = verdict {
-        return refuse(words, why);
+        return refuse(words, Whose::Of(at), why);
     }
     let own = departure_verdict(d, e.time, train_verdict(d, granted));
     if let Verdict::Refused(why) = own {
-        return refuse(words, why);
+        return refuse(words, Whose::Of(at), why);
     }
     let clears = d.clears;
     let booked = d.sent == 0;

@@ -34,6 +34,7 @@ use working::Movement;
 use working::Station;
 use working::Vehicle;
 use working::Verdict;
+use working::Whose;
 
 // The desk of station `at`, which is `d`, where its own vehicle is back: an OPEN or a THROUGH, since no other may enter.
 fn arrive_own(words: &mut Words, at: Station, time: u16, d: Desk, movement: Movement)
@@ -107,12 +108,12 @@ pub(crate) fn enter_receive(words: &mut Words, e: Entry) -> Answer
     let d = desk(words, at);
     let verdict = station_verdict(in_force(words), d, e.time);
     if let Verdict::Refused(why) = verdict {
-        return refuse(words, why);
+        return refuse(words, Whose::Of(at), why);
     }
     let v = nearest(words, at);
     let own = receive_verdict(at, sender, e.number, v);
     if let Verdict::Refused(why) = own {
-        return refuse(words, why);
+        return refuse(words, Whose::Of(at), why);
     }
     remove(words, at);
     arrive(words, at, e.time, d, v);

@@ -2,6 +2,7 @@
 use Prim.Native.Nat.{_*_, _+_, suc, zero, ℕ}
 use Rattle.working.specs.Sections.{freshDesk, withFigures}
 use Rattle.working.specs.declared.Clears.{Clears}
+use Rattle.working.specs.declared.Counts.{Counts}
 use Rattle.working.specs.declared.Desk.{Desk}
 use Rattle.working.specs.declared.Entry.{Entry}
 use Rattle.working.specs.declared.Interval.the-variants.{Since, Stopped}
@@ -15,12 +16,22 @@ use lib.ListN.{getD}
 use mathlib.Core.Bool.{cond}
 use mathlib.Core.List.{List, [], _∷_}
 
--- the byte at a place, and the number that it and the next stand for, "high byte first"
+-- the bytes of a section, and of the longest head of a case: a section's and two more
+abbrev pub sectionLength : ℕ
+sectionLength = 256
+
+abbrev pub longestHead : ℕ
+longestHead = sectionLength + 2
+
+-- the byte at a place, and the numbers that two and four from there on stand for, "high byte first"
 abbrev pub byteAt : List ℕ → ℕ → ℕ
 byteAt figures at = getD figures at 0
 
 abbrev pub numberAt : List ℕ → ℕ → ℕ
 numberAt figures at = byteAt figures at * 256 + byteAt figures (at + 1)
+
+abbrev pub wideAt : List ℕ → ℕ → ℕ
+wideAt figures at = numberAt figures at * 65536 + numberAt figures (at + 2)
 
 -- "kind 1 (0 none, 2 OPEN, 3 THROUGH, 4 RETURN, 5 TRAIN)"; none is the OPEN that asks for nothing
 abbrev pub movementOf : ℕ → ℕ → ℕ → Movement
@@ -57,15 +68,19 @@ deskAt figures at d =
     (intervalOf (byteAt figures (at + 5)) (numberAt figures (at + 6)))
     (eqb (byteAt figures (at + 8)) 1) (byteAt figures (at + 9)) (clearsAt figures (at + 10)) d
 
--- the 248 bytes of a section
+-- "entries refused for A, for B, and of no station"
+abbrev pub countsAt : List ℕ → ℕ → Counts
+countsAt figures at = record { a = wideAt figures at; b = wideAt figures (at + 4); none = wideAt figures (at + 8) }
+
+-- the bytes of a section
 abbrev pub sectionIn : List ℕ → Section
 sectionIn figures = record {
   vehicles = placesAt 24 figures 0;
   len = byteAt figures 216;
   force = eqb (byteAt figures 217) 1;
-  refused = numberAt figures 218 * 65536 + numberAt figures 220;
-  a = deskAt figures 222 freshDesk;
-  b = deskAt figures 235 freshDesk;
+  refused = countsAt figures 218;
+  a = deskAt figures 230 freshDesk;
+  b = deskAt figures 243 freshDesk;
 }
 
 -- "an entry of 12 bytes (map 1, kind 1, station 1, time 2, view 1, class 1, asked 1, granted 1, sender 1, number 2)"

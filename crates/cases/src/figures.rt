@@ -1,12 +1,14 @@
-// A section in figures: the 248 bytes of docs/CASES.md, at the front of a case's head.
+// A section in figures: the bytes of docs/CASES.md, at the front of a case's head.
 ghost use Prim.Native.Nat.{_*_, _+_, _≤_};
-ghost use Rattle.cases.specs.Figures.{clearsAt, deskAt, entryIn, intervalOf, movementOf, numberAt, placesAt, sectionIn, vehicleAt};
+ghost use Rattle.cases.specs.Figures.{clearsAt, countsAt, deskAt, entryIn, intervalOf, longestHead, movementOf, placesAt, sectionIn, sectionLength, vehicleAt, wideAt};
 ghost use lib.ListN.{length};
 ghost use mathlib.Core.Path.{_≡_};
 use crate::input::Head;
+use crate::input::SECTION_LENGTH;
 use crate::input::number_at;
 use crate::input::wide;
 use working::Clears;
+use working::Counts;
 use working::Desk;
 use working::Entry;
 use working::Interval;
@@ -21,9 +23,9 @@ const FORCE: usize = 217;
 
 const REFUSED: usize = 218;
 
-const DESK_A: usize = 222;
+const DESK_A: usize = 230;
 
-const DESK_B: usize = 235;
+const DESK_B: usize = 243;
 
 // What a vehicle left on: kind 0, the unused place, is the OPEN that asks for nothing.
 fn movement_in(kind: u8, asked: u8, granted: u8) -> Movement
@@ -43,7 +45,7 @@ fn movement_in(kind: u8, asked: u8, granted: u8) -> Movement
 
 // The nine bytes of a place.
 fn vehicle_in(figures: &Head, at: usize) -> Vehicle
-    requires { ⌜ at + 9 ≤ 250 ⌝ }
+    requires { ⌜ at + 9 ≤ longestHead ⌝ }
     ensures { λ r. ⌜ r ≡ vehicleAt (now (figures .entry)) at ⌝ }
 {
     Vehicle {
@@ -81,7 +83,7 @@ fn interval_in(running: u8, minute: u16) -> Interval
 
 // The three bytes of the line clears at a desk.
 fn clears_in(figures: &Head, at: usize) -> Clears
-    requires { ⌜ at + 3 ≤ 250 ⌝ }
+    requires { ⌜ at + 3 ≤ longestHead ⌝ }
     ensures { λ r. ⌜ r ≡ clearsAt (now (figures .entry)) at ⌝ }
 {
     Clears {
@@ -93,7 +95,7 @@ fn clears_in(figures: &Head, at: usize) -> Clears
 
 // The thirteen bytes of a desk; a figure that they do not give is that of `other`.
 fn desk_in(figures: &Head, at: usize, other: Desk) -> Desk
-    requires { ⌜ at + 13 ≤ 250 ⌝ }
+    requires { ⌜ at + 13 ≤ longestHead ⌝ }
     ensures { λ r. ⌜ r ≡ deskAt (now (figures .entry)) at other ⌝ }
 {
     Desk {
@@ -108,13 +110,25 @@ fn desk_in(figures: &Head, at: usize, other: Desk) -> Desk
     }
 }
 
-// The count of refused entries, four bytes.
-fn refused_in(figures: &Head) -> u32
-    ensures { λ r. ⌜ r ≡ numberAt (now (figures .entry)) 218 * 65536 + numberAt (now (figures .entry)) 220 ⌝ }
+// A count, four bytes.
+fn count_in(figures: &Head, at: usize) -> u32
+    requires { ⌜ at + 4 ≤ longestHead ⌝ }
+    ensures { λ r. ⌜ r ≡ wideAt (now (figures .entry)) at ⌝ }
 {
-    let high = number_at(figures, REFUSED);
-    let low = number_at(figures, REFUSED + 2);
+    let high = number_at(figures, at);
+    let low = number_at(figures, at + 2);
     (high as u32) * 65536 + low as u32
+}
+
+// Entries refused for A, for B, and of no station.
+fn counts_in(figures: &Head) -> Counts
+    ensures { λ r. ⌜ r ≡ countsAt (now (figures .entry)) 218 ⌝ }
+{
+    Counts {
+        a: count_in(figures, REFUSED),
+        b: count_in(figures, REFUSED + 4),
+        none: count_in(figures, REFUSED + 8),
+    }
 }
 
 // The section that the figures say, well made or not.
@@ -125,7 +139,7 @@ pub(crate) fn section_in(figures: &Head) -> Section
         vehicles: vehicles_in(figures),
         len: wide(figures[PRESENT]) as usize,
         force: figures[FORCE] == 1,
-        refused: refused_in(figures),
+        refused: counts_in(figures),
         a: desk_in(figures, DESK_A, Desk::fresh()),
         b: desk_in(figures, DESK_B, Desk::fresh()),
     }
@@ -216,15 +230,13 @@ fn desk_figures(desk: Desk) -> [u8; 13] {
     ]
 }
 
-// Vehicles present, in force, and the count of refused entries.
-fn count_figures(present: usize, force: bool, refused: u32) -> [u8; 6] {
+// A count of refused entries.
+fn count_figures(count: u32) -> [u8; 4] {
     [
-        (present % 256) as u8,
-        one_if(force),
-        (refused / 16777216) as u8,
-        (refused / 65536 % 256) as u8,
-        (refused / 256 % 256) as u8,
-        (refused % 256) as u8,
+        (count / 16777216) as u8,
+        (count / 65536 % 256) as u8,
+        (count / 256 % 256) as u8,
+        (count % 256) as u8,
     ]
 }
 
@@ -241,7 +253,7 @@ pub(crate) fn put_bytes(room: &mut [u8], at: usize, bytes: &[u8])
 
 // The 24 places, at the front of the figures.
 fn put_vehicles(figures: &mut [u8], places: [Vehicle; Section::PLACES])
-    requires { ⌜ 248 ≤ length (now figures) ⌝ }
+    requires { ⌜ sectionLength ≤ length (now figures) ⌝ }
 {
     let mut i = 0;
     while i < Section::PLACES {
@@ -250,28 +262,39 @@ fn put_vehicles(figures: &mut [u8], places: [Vehicle; Section::PLACES])
     }
 }
 
+// Entries refused for A, for B, and of no station.
+fn put_counts(figures: &mut [u8], counts: Counts)
+    requires { ⌜ sectionLength ≤ length (now figures) ⌝ }
+{
+    put_bytes(figures, REFUSED, &count_figures(counts.a));
+    put_bytes(figures, REFUSED + 4, &count_figures(counts.b));
+    put_bytes(figures, REFUSED + 8, &count_figures(counts.none));
+}
+
 // The section's figures, well made or not.
-pub(crate) fn figures_of(s: Section) -> [u8; 248] {
-    let mut figures = [0u8; 248];
+pub(crate) fn figures_of(s: Section) -> [u8; SECTION_LENGTH] {
+    let mut figures = [0u8; SECTION_LENGTH];
     let places = s.vehicles;
+    let counts = s.refused;
     let a = s.a;
     let b = s.b;
     put_vehicles(&mut figures, places);
     put_bytes(
         &mut figures,
         PRESENT,
-        &count_figures(s.len, s.force, s.refused),
+        &[(s.len % 256) as u8, one_if(s.force)],
     );
+    put_counts(&mut figures, counts);
     put_bytes(&mut figures, DESK_A, &desk_figures(a));
     put_bytes(&mut figures, DESK_B, &desk_figures(b));
     figures
 }
 
 // The digest of a section's figures.
-pub(crate) fn digest(figures: &[u8; 248]) -> u64 {
+pub(crate) fn digest(figures: &[u8; SECTION_LENGTH]) -> u64 {
     let mut sum: u64 = 0;
     let mut i = 0;
-    while i < 248 {
+    while i < SECTION_LENGTH {
         sum = (sum * 31 + wide(figures[i])) % 4294967296;
         i += 1;
     }

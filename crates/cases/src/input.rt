@@ -1,13 +1,16 @@
 // A case on standard input: what it is, its head, whose last two bytes are a length, and so many bytes behind them.
 ghost use Prim.Native.Nat.{_*_, _+_, _<_, _≤_};
-ghost use Rattle.cases.specs.Figures.{numberAt};
+ghost use Rattle.cases.specs.Figures.{longestHead, numberAt};
 ghost use Rattle.io.specs.Counts.{Counts};
 ghost use lib.ListN.{length};
 ghost use mathlib.Core.Path.{_≡_};
 use libc::STDIN_FILENO;
 
+// The bytes of a section.
+pub(crate) const SECTION_LENGTH: usize = 256;
+
 // The longest head, of a step: a section's figures, and the length of the bytes behind them.
-pub(crate) const LONGEST_HEAD: usize = 250;
+pub(crate) const LONGEST_HEAD: usize = SECTION_LENGTH + 2;
 
 pub(crate) type Head = [u8; LONGEST_HEAD];
 
@@ -33,7 +36,7 @@ fn number(high: u8, low: u8) -> u16
 
 // The number at a place, high byte first.
 pub(crate) fn number_at(head: &Head, at: usize) -> u16
-    requires { ⌜ at + 2 ≤ 250 ⌝ }
+    requires { ⌜ at + 2 ≤ longestHead ⌝ }
     ensures { λ r. ⌜ r ≡ numberAt (now (head .entry)) at ⌝ }
 {
     number(head[at], head[at + 1])
@@ -58,7 +61,7 @@ fn read_kind() -> u8 {
 
 // The bytes of a case's head; 0 where there is no such case.
 fn head_length(kind: u8) -> usize
-    ensures { λ r. ⌜ r ≤ 250 ⌝ }
+    ensures { λ r. ⌜ r ≤ longestHead ⌝ }
 {
     match kind {
         1 => 2,

@@ -59,7 +59,7 @@ pub extern "C" fn lupin_begin(log: &[u8], words: &mut [u64]) -> usize
 }
 
 // The next lines of a log's listing at the front of the buffer lent, as many as find room, and how many bytes they are. The bytes behind them keep their values. The words
-// say where the listing stands, and are left where it goes on. A buffer of fewer than 172 bytes, the longest line, takes no line; of any longer one the answer is 0 only
+// say where the listing stands, and are left where it goes on. A buffer of fewer than 214 bytes, the longest line, takes no line; of any longer one the answer is 0 only
 // where the listing has ended. Fewer words than `STATE_WORDS`, and the buffer, keep their values, and the answer is 0.
 #[no_mangle]
 pub extern "C" fn lupin_fill(words: &mut [u64], log: &[u8], out: &mut [u8]) -> usize
@@ -76,7 +76,7 @@ pub extern "C" fn lupin_fill(words: &mut [u64], log: &[u8], out: &mut [u8]) -> u
 }
 
 // The last line alone of a log's listing, at the front of the buffer lent, and its length. The bytes behind it keep their values.
-// A buffer with no room for the longest line, 172 bytes, keeps its values, and the answer is 0.
+// A buffer with no room for the longest line, 214 bytes, keeps its values, and the answer is 0.
 #[no_mangle]
 pub extern "C" fn lupin_end(log: &[u8], out: &mut [u8]) -> usize
     ensures { λ r. ⌜ Ends (now (log .entry)) (now (out .entry)) r (now (out .exit)) ⌝ }
@@ -86,9 +86,9 @@ pub extern "C" fn lupin_end(log: &[u8], out: &mut [u8]) -> usize
     listing::put_last(out, 0, log.len(), end.entries, end.accepted, section)
 }
 
-// The figures of a log's last line, in its order, at the front of the numbers lent, and how many they are, 8: entries, accepted, refused, vehicles present, A holds, A owes,
-// B holds, B owes. Where fewer numbers are lent they keep their values, and the answer is 0. So it is of a log that is too long to be listed: its last line, `long`, has no
-// figures.
+// The figures of a log's last line, in its order, at the front of the numbers lent, and how many they are, 10: entries, accepted, refused for A, for B and of no station,
+// vehicles present, A holds, A owes, B holds, B owes. Where fewer numbers are lent they keep their values, and the answer is 0. So it is of a log that is too long to be
+// listed: its last line, `long`, has no figures.
 #[no_mangle]
 pub extern "C" fn lupin_figures(log: &[u8], figures: &mut [u64]) -> usize
     ensures { λ r. ⌜ Figures (now (log .entry)) (now (figures .entry)) r (now (figures .exit)) ⌝ }

@@ -3,13 +3,14 @@
 use Prim.Native.Nat.{_-_, _<_, _≤_}
 use Rattle.cases.proofs.figures.digest.Statement.{statement}
 use Rattle.cases.proofs.figures.digest.Tie as tie
+use Rattle.cases.specs.Figures.{sectionLength}
 use borrow.Author.Needs.{needs}
 
 abbrev Inv-loop : tie.InvT-loop
-Inv-loop figures sum₀ i₀ sum i = (i ≤ 248) × (sum < 4294967296)
+Inv-loop figures sum₀ i₀ sum i = (i ≤ sectionLength) × (sum < 4294967296)
 
 abbrev μ-loop : tie.MeasureT-loop
-μ-loop figures sum₀ i₀ sum i = 248 - i
+μ-loop figures sum₀ i₀ sum i = sectionLength - i
 
 pub digest-spec : {M : Type 1} → statement M
 digest-spec =

@@ -22,12 +22,16 @@ pub(crate) const LEN: usize = 0;
 
 pub(crate) const FORCE: usize = 1;
 
-// Entries refused for A, and behind it for B and of no station.
-pub(crate) const REFUSED: usize = 2;
+// Entries refused for A, for B, and of no station.
+pub(crate) const REFUSED_A: usize = 2;
 
-pub(crate) const START: usize = REFUSED + 3;
+pub(crate) const REFUSED_B: usize = 3;
 
-const FIRST_DESK: usize = START + 1;
+pub(crate) const REFUSED_NONE: usize = 4;
+
+pub(crate) const START: usize = 5;
+
+const FIRST_DESK: usize = 6;
 
 // The figures of a desk, each at its place.
 const CLOCK: usize = 0;
@@ -200,10 +204,10 @@ fn count_place(whose: Whose) -> usize
 {
     match whose {
         Whose::Of(at) => match at {
-            Station::A => REFUSED,
-            Station::B => REFUSED + 1,
+            Station::A => REFUSED_A,
+            Station::B => REFUSED_B,
         },
-        Whose::NoStation => REFUSED + 2,
+        Whose::NoStation => REFUSED_NONE,
     }
 }
 

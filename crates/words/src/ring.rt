@@ -10,7 +10,9 @@ ghost use lib.ListN.{getD, length};
 ghost use mathlib.Core.Path.{_≡_};
 use crate::desks::FORCE;
 use crate::desks::LEN;
-use crate::desks::REFUSED;
+use crate::desks::REFUSED_A;
+use crate::desks::REFUSED_B;
+use crate::desks::REFUSED_NONE;
 use crate::desks::RING;
 use crate::desks::SLOT_LENGTH;
 use crate::desks::SLOTS;
@@ -39,9 +41,9 @@ pub(crate) fn emptied_words(force: bool, counts: Counts) -> Words
 {
     let mut words = [0; WORDS];
     words[FORCE] = word_if(force);
-    words[REFUSED] = counts.a as u64;
-    words[REFUSED + 1] = counts.b as u64;
-    words[REFUSED + 2] = counts.none as u64;
+    words[REFUSED_A] = counts.a as u64;
+    words[REFUSED_B] = counts.b as u64;
+    words[REFUSED_NONE] = counts.none as u64;
     words
 }
 

@@ -17,5 +17,4 @@ returns-3 c = rw (c .enum-told3 .given .1) (refl, omega arith)
 
 pub count-place-spec : {M : Type 1} → statement M
 count-place-spec =
-    tie.close
-    (tie.spec (λ c. search needs) (λ c. search needs) (λ c. search needs) (λ c. search needs) (λ c. search needs) (λ c. search needs) returns returns-2 returns-3)
+    tie.close (tie.spec (λ c. search needs) (λ c. search needs) (λ c. search needs) (λ c. search needs) returns returns-2 returns-3)

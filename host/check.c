@@ -1,6 +1,6 @@
 /* Calls every function of lupinshift.h as a host might that is careless: with NULL and length 0, with buffers that are a place too
-   short, and with a listing taken in blocks of many lengths. What is refused must alter nothing. Reads a log from standard input and
-   says what differs. */
+   short, and with a listing taken in blocks of many lengths. What is refused must alter nothing. The figures of a last line must stand
+   at their places. Reads a log from standard input and says what differs. */
 #include <stdio.h>
 #include <stdlib.h>
 #include <string.h>
@@ -36,7 +36,7 @@ static int kept(const uint64_t *numbers, size_t from, size_t to)
 
 static void no_places(void)
 {
-    static const char none[] = "end 0 0 0 0 0 0 0 0\n";
+    static const char none[] = "end 0 0 0 0 0 0 0 0 0 0\n";
     uint64_t state[LUPIN_STATE_WORDS], figures[LUPIN_FIGURES];
     uint8_t out[LUPIN_LISTING_ROOM(0)];
     const uint8_t log[] = {1, 1};
@@ -44,7 +44,7 @@ static void no_places(void)
     expect(lupin_list(NULL, 0, out, sizeof out) == strlen(none), "lupin_list, no log: the length");
     expect(memcmp(out, none, strlen(none)) == 0, "lupin_list, no log: the listing");
     expect(lupin_end(NULL, 0, out, sizeof out) == strlen(none), "lupin_end, no log");
-    expect(lupin_figures(NULL, 0, figures, LUPIN_FIGURES) == LUPIN_FIGURES && figures[0] == 0, "lupin_figures, no log");
+    expect(lupin_figures(NULL, 0, figures, LUPIN_FIGURES) == LUPIN_FIGURES && figures[LUPIN_ENTRIES] == 0, "lupin_figures, no log");
     expect(lupin_answer(NULL, 0) == 0, "lupin_answer, no log");
     expect(lupin_taken(NULL, 0) == 0, "lupin_taken, no log");
     expect(lupin_begin(NULL, 0, state, LUPIN_STATE_WORDS) == LUPIN_STATE_WORDS, "lupin_begin, no log");
@@ -65,11 +65,50 @@ static void no_places(void)
     expect(lupin_fill(NULL, 0, NULL, 0, NULL, 0) == 0, "lupin_fill, nothing");
 }
 
+/* A log whose last line has three counts that differ, a vehicle present, and line clears that A holds and that B owes. */
+static void every_figure(void)
+{
+    static const uint8_t log[] = {
+        0x1F, 3, 1, 0, 0, 1, 1,       /* THROUGH at A: 7, for A */
+        0x1F, 3, 2, 0, 0, 1, 1,       /* THROUGH at B: 7, for B */
+        0x1F, 3, 2, 0, 0, 1, 1,       /* and again */
+        0x83, 7, 1, 1, 0, 1,          /* MEET to A: 7, of no station */
+        0x01, 8,                      /* RESUME: 7, of no station */
+        0x1F, 3, 1, 0, 0, 1, 2,       /* THROUGH at A, class 2: 4, of no station */
+        0x01, 1,                      /* BEGIN, which keeps the counts */
+        0x3F, 2, 1, 0, 0, 1, 1, 3,    /* OPEN at A, asks for 3 */
+        0x87, 6, 2, 0, 9, 1, 0, 1,    /* RECEIVE at B */
+        0x47, 4, 2, 0, 9, 3,          /* RETURN at B, grants 3 */
+        0x87, 6, 1, 0, 9, 2, 0, 1,    /* RECEIVE at A */
+        0x0F, 5, 1, 0, 9, 1,          /* TRAIN at A */
+    };
+    static const char line[] = "end 12 6 1 2 3 1 2 0 0 3\n";
+    static const uint64_t wanted[LUPIN_FIGURES] = {
+        [LUPIN_ENTRIES] = 12,
+        [LUPIN_ACCEPTED] = 6,
+        [LUPIN_REFUSED_FOR_A] = 1,
+        [LUPIN_REFUSED_FOR_B] = 2,
+        [LUPIN_REFUSED_OF_NONE] = 3,
+        [LUPIN_PRESENT] = 1,
+        [LUPIN_A_HOLDS] = 2,
+        [LUPIN_A_OWES] = 0,
+        [LUPIN_B_HOLDS] = 0,
+        [LUPIN_B_OWES] = 3,
+    };
+    uint64_t figures[LUPIN_FIGURES];
+    uint8_t out[LUPIN_LONGEST_LINE];
+
+    expect(lupin_figures(log, sizeof log, figures, LUPIN_FIGURES) == LUPIN_FIGURES, "lupin_figures, every figure: how many");
+    expect(memcmp(figures, wanted, sizeof wanted) == 0, "lupin_figures, every figure");
+    expect(lupin_end(log, sizeof log, out, sizeof out) == strlen(line), "lupin_end, every figure: the length");
+    expect(memcmp(out, line, strlen(line)) == 0, "lupin_end, every figure");
+}
+
 /* Buffers with just the room, and with a place less. */
 static void short_buffers(const uint8_t *log, size_t len, uint8_t *out)
 {
     size_t room = LUPIN_LISTING_ROOM(len), count;
-    uint64_t state[LUPIN_STATE_WORDS + 1], figures[LUPIN_FIGURES + 1];
+    uint64_t state[LUPIN_STATE_WORDS + 1], figures[LUPIN_FIGURES + 1], refused;
 
     memset(out, BEFORE, room);
     expect(lupin_list(log, len, out, room - 1) == 0 && untouched(out, 0, room), "lupin_list, a byte too few");
@@ -87,7 +126,8 @@ static void short_buffers(const uint8_t *log, size_t len, uint8_t *out)
         expect(lupin_figures(log, len, figures, LUPIN_FIGURES) == 0 && kept(figures, 0, LUPIN_FIGURES + 1), "lupin_figures, a log that is too long");
     } else {
         expect(lupin_figures(log, len, figures, LUPIN_FIGURES) == LUPIN_FIGURES && kept(figures, LUPIN_FIGURES, LUPIN_FIGURES + 1), "lupin_figures, just the places");
-        expect(figures[0] == figures[1] + figures[2], "lupin_figures, entries");
+        refused = figures[LUPIN_REFUSED_FOR_A] + figures[LUPIN_REFUSED_FOR_B] + figures[LUPIN_REFUSED_OF_NONE];
+        expect(figures[LUPIN_ENTRIES] == figures[LUPIN_ACCEPTED] + refused, "lupin_figures, entries");
     }
 
     memset(out, BEFORE, room);
@@ -143,6 +183,7 @@ int main(int argc, char **argv)
         return 1;
     }
     no_places();
+    every_figure();
     short_buffers(log, len, out);
     length = lupin_list(log, len, listing, room);
     for (size = LUPIN_LONGEST_LINE; size < 2 * LUPIN_LONGEST_LINE; size++)

@@ -19,16 +19,31 @@ extern "C" {
 #define LUPIN_LONGEST_LOG 65536
 
 /* The room that any one line of a listing takes, in bytes. */
-#define LUPIN_LONGEST_LINE 172
+#define LUPIN_LONGEST_LINE 214
 
 /* The room, in bytes, that lupin_list asks for a log of n bytes: no listing is longer. */
-#define LUPIN_LISTING_ROOM(n) ((size_t)(n) > LUPIN_LONGEST_LOG ? (size_t)344 : 25 * (size_t)(n) + 344)
+#define LUPIN_LISTING_ROOM(n) ((size_t)(n) > LUPIN_LONGEST_LOG ? (size_t)428 : 25 * (size_t)(n) + 428)
 
 /* How many numbers say where a listing in blocks stands. */
-#define LUPIN_STATE_WORDS 91
+#define LUPIN_STATE_WORDS 93
 
 /* How many figures the last line of a listing has. */
-#define LUPIN_FIGURES 8
+#define LUPIN_FIGURES 10
+
+/* The place of each of them. A refused entry is counted once: for the station that made it, or, where the bytes are no entry
+   (refusals 1 to 4) or the entry is a BEGIN, a RESUME or a MEET, as of no station. */
+enum lupin_figure {
+    LUPIN_ENTRIES,
+    LUPIN_ACCEPTED,
+    LUPIN_REFUSED_FOR_A,
+    LUPIN_REFUSED_FOR_B,
+    LUPIN_REFUSED_OF_NONE,
+    LUPIN_PRESENT,
+    LUPIN_A_HOLDS,
+    LUPIN_A_OWES,
+    LUPIN_B_HOLDS,
+    LUPIN_B_OWES
+};
 
 /* Puts the listing of the log at the front of out and answers its length, which is never 0.
    Refused where out_len is below LUPIN_LISTING_ROOM(log_len). */
@@ -53,9 +68,9 @@ size_t lupin_fill(uint64_t *state, size_t state_len, const uint8_t *log, size_t 
    Refused where out_len is below LUPIN_LONGEST_LINE. */
 size_t lupin_end(const uint8_t *log, size_t log_len, uint8_t *out, size_t out_len);
 
-/* Puts the eight figures of the log's last line at the front of figures and answers LUPIN_FIGURES: entries, accepted, refused,
-   vehicles present, A holds, A owes, B holds, B owes. Refused where figures has fewer places, and where the log is longer than
-   LUPIN_LONGEST_LOG: its last line, `long`, has no figures. */
+/* Puts the ten figures of the log's last line at the front of figures and answers LUPIN_FIGURES: entries, accepted, refused for A,
+   refused for B, refused of no station, vehicles present, A holds, A owes, B holds, B owes (enum lupin_figure). Refused where figures
+   has fewer places, and where the log is longer than LUPIN_LONGEST_LOG: its last line, `long`, has no figures. */
 size_t lupin_figures(const uint8_t *log, size_t log_len, uint64_t *figures, size_t figures_len);
 
 /* The number of the refusal that answers the last entry of the log, and 0 where that is accepted or the log has no entry.

@@ -3,6 +3,7 @@
 use std::io::Write;
 use std::process::{Command, Stdio};
 
+use lupinshift::FIGURES;
 use second::{Run, Section};
 
 use crate::shared::{figures_of, taken_of};
@@ -72,7 +73,7 @@ pub fn assert_agreed(log: &[u8], out: &mut [u8]) {
     let taken = taken_of(log);
     assert_eq!(lupinshift::taken(log), taken);
     assert_eq!(quick::taken(log), taken);
-    let figures = figures_of(log);
+    let figures = figures_of(log).in_order();
     assert_eq!(proved_figures(log), figures);
     assert_eq!(quick::run(log), figures);
     let listing = second::list(log);
@@ -82,22 +83,26 @@ pub fn assert_agreed(log: &[u8], out: &mut [u8]) {
     assert!(out[..len] == *listing.as_bytes());
 }
 
-fn proved_figures(log: &[u8]) -> [u64; 8] {
-    lupinshift::figures(log).expect("a log that is not too long")
+fn proved_figures(log: &[u8]) -> [u64; FIGURES] {
+    let mut figures = [0; FIGURES];
+    lupinshift::figures_into(log, &mut figures).expect("a log that is not too long");
+    figures
 }
 
 /// The figures but the numbers of entries and of those accepted, which the
 /// second program does not give with the section at the end.
-fn left(figures: [u64; 8]) -> [u64; 6] {
+fn left(figures: [u64; FIGURES]) -> [u64; FIGURES - 2] {
     let [_, _, left @ ..] = figures;
     left
 }
 
 /// The same from the section at the end.
-fn left_in(section: &Section) -> [u64; 6] {
+fn left_in(section: &Section) -> [u64; FIGURES - 2] {
     let [a, b] = &section.desks;
     [
-        section.refused.into(),
+        section.refused.for_a.into(),
+        section.refused.for_b.into(),
+        section.refused.of_none.into(),
         section.present as u64,
         a.holds.into(),
         a.owes.into(),
@@ -107,7 +112,7 @@ fn left_in(section: &Section) -> [u64; 6] {
 }
 
 /// One number of all.
-fn mixed(figures: [u64; 6]) -> u64 {
+fn mixed(figures: [u64; FIGURES - 2]) -> u64 {
     let next = |sum: u64, figure| sum.wrapping_mul(65_537).wrapping_add(figure);
     figures.into_iter().fold(0, next)
 }

@@ -5,7 +5,7 @@ mod shared;
 
 use std::process::ExitCode;
 
-use lupinshift::{Listing, LONGEST_LINE, LONGEST_LOG};
+use lupinshift::{Figures, Listing, FIGURES, LONGEST_LINE, LONGEST_LOG};
 use second::generator::{log, Options};
 use second::random::Random;
 use second::Run;
@@ -117,7 +117,7 @@ fn compare(log: &[u8], random: &mut Random) -> Result<u64, &'static str> {
     if lupinshift::taken(log) != taken_of(log) {
         return Err("the entries taken");
     }
-    Ok(figures[0])
+    Ok(figures.entries)
 }
 
 /// What a buffer of so many bytes holds with the text at its front.
@@ -180,17 +180,23 @@ fn ends(log: &[u8], line: &[u8], random: &mut Random) -> bool {
     count == (room >= LONGEST_LINE).then_some(line.len()) && out == before(line, room)
 }
 
-/// Eight figures before a place that keeps its value, or none, of a log that is
-/// too long and where there are fewer places.
-fn figured(log: &[u8], figures: [u64; 8]) -> bool {
-    let mut few = [7; 7];
-    let mut more = [7; 9];
-    let refused = lupinshift::figures_into(log, &mut few).is_none() && few == [7; 7];
+/// The figures by name, and in order before a place that keeps its value; or
+/// none, of a log that is too long and where there are fewer places.
+fn figured(log: &[u8], figures: Figures) -> bool {
+    let mut few = [7; FIGURES - 1];
+    let mut more = [7; FIGURES + 1];
+    let refused = lupinshift::figures_into(log, &mut few).is_none() && few == [7; FIGURES - 1];
     let given = lupinshift::figures_into(log, &mut more);
+    let named = lupinshift::figures(log);
     if log.len() > LONGEST_LOG {
-        return refused && given.is_none() && more == [7; 9];
+        return refused && given.is_none() && more == [7; FIGURES + 1] && named.is_none();
     }
-    refused && given == Some(8) && more[..8] == figures && more[8] == 7
+    let [in_order @ .., behind] = more;
+    refused
+        && given == Some(FIGURES)
+        && in_order == figures.in_order()
+        && behind == 7
+        && named == Some(figures)
 }
 
 /// The number of the refusal that answers the last entry, by the second

@@ -15,10 +15,13 @@
 //! of its last entry.
 //!
 //! ```
-//! let log = [0x01, 0x01]; // BEGIN
-//! assert_eq!(lupinshift::list(&log), b"1 1 - ok 0 0 -\nend 1 1 0 0 0 0 0 0\n");
-//! assert_eq!(lupinshift::figures(&log), Some([1, 1, 0, 0, 0, 0, 0, 0]));
-//! assert_eq!(lupinshift::answer(&log), 0);
+//! let log = [0x01, 0x01, 0x01, 0x01]; // BEGIN, and BEGIN again
+//! let listing = b"1 1 - ok 0 0 -\n2 1 - no 6\nend 2 1 0 0 1 0 0 0 0 0\n";
+//! assert_eq!(lupinshift::list(&log), listing);
+//! assert_eq!(lupinshift::answer(&log), 6);
+//! let figures = lupinshift::figures(&log).expect("a log that is not too long");
+//! assert_eq!(figures.refused_for_a, 0);
+//! assert_eq!(figures.refused_of_none, 1);
 //! ```
 //!
 //! Where a call is refused no place of the buffer lent is altered.
@@ -63,10 +66,10 @@ mod exported {
 pub const LONGEST_LOG: usize = 65_536;
 
 /// The room that any one line of a listing takes, in bytes.
-pub const LONGEST_LINE: usize = 172;
+pub const LONGEST_LINE: usize = 214;
 
 /// How many figures the last line of a listing has.
-pub const FIGURES: usize = 8;
+pub const FIGURES: usize = 10;
 
 /// Room for the numbers that say where a listing in blocks stands: more than
 /// `LUPIN_STATE_WORDS` of host/lupinshift.h, which a landing may raise.
@@ -176,9 +179,9 @@ pub fn end_into(log: &[u8], out: &mut [u8]) -> Option<usize> {
     some_put(unsafe { exported::lupin_end(log.as_ptr(), log.len(), out.as_mut_ptr(), out.len()) })
 }
 
-/// Puts the figures of the log's last line at the front of `figures`; how many
-/// they are, or nothing where there are fewer places than [`FIGURES`] or the
-/// log is longer than [`LONGEST_LOG`].
+/// Puts the figures of the log's last line, in its order, at the front of
+/// `figures`; how many they are, or nothing where there are fewer places than
+/// [`FIGURES`] or the log is longer than [`LONGEST_LOG`].
 pub fn figures_into(log: &[u8], figures: &mut [u64]) -> Option<usize> {
     // SAFETY: both are whole slices, and a `&mut` slice overlaps no other.
     some_put(unsafe {
@@ -186,13 +189,76 @@ pub fn figures_into(log: &[u8], figures: &mut [u64]) -> Option<usize> {
     })
 }
 
-/// The eight figures of a log's last line: entries, accepted, refused, vehicles
-/// present, A holds, A owes, B holds, B owes. The last line of a log that is
-/// longer than [`LONGEST_LOG`] has none.
+/// The figures of a log's last line, in its order. Entries are those accepted
+/// and the three counts of refused entries together.
+#[derive(Clone, Copy, Debug, PartialEq, Eq, Hash)]
+pub struct Figures {
+    /// Entries of the log, with bytes that are no entry and a cut end among
+    /// them.
+    pub entries: u64,
+    /// Entries accepted.
+    pub accepted: u64,
+    /// Entries refused that A made, also where the working is not in force.
+    pub refused_for_a: u64,
+    /// The same of B.
+    pub refused_for_b: u64,
+    /// Refused entries of no station: bytes that are no entry (refusals 1 to
+    /// 4), BEGIN, RESUME, and MEET, whatever station it names.
+    pub refused_of_none: u64,
+    /// Vehicles in the section.
+    pub present: u64,
+    /// Line clears that A holds.
+    pub a_holds: u64,
+    /// Line clears that A owes.
+    pub a_owes: u64,
+    /// Line clears that B holds.
+    pub b_holds: u64,
+    /// Line clears that B owes.
+    pub b_owes: u64,
+}
+
+impl Figures {
+    fn read_off(line: [u64; FIGURES]) -> Self {
+        let [entries, accepted, refused_for_a, refused_for_b, refused_of_none, section @ ..] = line;
+        let [present, a_holds, a_owes, b_holds, b_owes] = section;
+        Self {
+            entries,
+            accepted,
+            refused_for_a,
+            refused_for_b,
+            refused_of_none,
+            present,
+            a_holds,
+            a_owes,
+            b_holds,
+            b_owes,
+        }
+    }
+
+    /// As the last line has them.
+    #[must_use]
+    pub const fn in_order(&self) -> [u64; FIGURES] {
+        [
+            self.entries,
+            self.accepted,
+            self.refused_for_a,
+            self.refused_for_b,
+            self.refused_of_none,
+            self.present,
+            self.a_holds,
+            self.a_owes,
+            self.b_holds,
+            self.b_owes,
+        ]
+    }
+}
+
+/// The figures of a log's last line. The last line of a log that is longer than
+/// [`LONGEST_LOG`] has none.
 #[must_use]
-pub fn figures(log: &[u8]) -> Option<[u64; FIGURES]> {
+pub fn figures(log: &[u8]) -> Option<Figures> {
     let mut figures = [0; FIGURES];
-    figures_into(log, &mut figures).map(|_| figures)
+    figures_into(log, &mut figures).map(|_| Figures::read_off(figures))
 }
 
 /// The number of the refusal that answers the log's last entry; 0 where that is

@@ -1,6 +1,7 @@
 //! What the comparison and the benchmark share: the sorts of generated logs,
 //! and what the second program makes of a log.
 
+use lupinshift::Figures;
 use second::generator::Options;
 use second::{Reader, Refusal, Run};
 
@@ -23,24 +24,23 @@ pub fn sorts(bytes: Option<usize>) -> [Options; 3] {
 }
 
 /// The figures of a log's last line.
-pub fn figures_of(log: &[u8]) -> [u64; 8] {
+pub fn figures_of(log: &[u8]) -> Figures {
     let mut run = Run::new(log);
     let entries = run.by_ref().count() as u64;
     let section = run.section();
-    let refused = u64::from(section.refused);
     let [a, b] = &section.desks;
-    let clears = [a.holds, a.owes, b.holds, b.owes].map(u64::from);
-    let [first, second, third, fourth] = clears;
-    [
+    Figures {
         entries,
-        entries - refused,
-        refused,
-        section.present as u64,
-        first,
-        second,
-        third,
-        fourth,
-    ]
+        accepted: entries - section.refused.total(),
+        refused_for_a: section.refused.for_a.into(),
+        refused_for_b: section.refused.for_b.into(),
+        refused_of_none: section.refused.of_none.into(),
+        present: section.present as u64,
+        a_holds: a.holds.into(),
+        a_owes: a.owes.into(),
+        b_holds: b.holds.into(),
+        b_owes: b.owes.into(),
+    }
 }
 
 /// How many entries of a log are taken.

@@ -191,7 +191,7 @@ atLimitsOf x =
 
 abbrev atLimits : List Section
 atLimits =
-    -- "not in force, all but the counts is as fresh"; the counts at both ends
+    -- "not in force, all but the count is as fresh"; the three counts at both ends
     idle A freshDesk
     ∷ record { vehicles = padTo 24 []; len = 0; force = false; refused = counts 4294967295 4294967295 4294967295; a = freshDesk; b = freshDesk }
     ∷ working noneRefused [] freshDesk freshDesk

@@ -166,7 +166,7 @@ zeroTests (n ∷ ns) = eqb n 0 ∷ zeroTests ns
 abbrev pub isFreshDesk : Desk → Bool
 isFreshDesk d = every (zeroTests (numbersOf (deskFigures d)))
 
--- "not in force, all but the counts is as fresh"
+-- "not in force, all but the count is as fresh": but the three counts
 abbrev pub isIdle : Section → Bool
 isIdle s = every (eqb (s .len) 0 ∷ isFreshDesk (s .a) ∷ isFreshDesk (s .b) ∷ [])
 

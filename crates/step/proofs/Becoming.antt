@@ -266,7 +266,7 @@ module _ (w : List ℕ) (x sender : Station) (form : ℕ) where
   meet-refused {w₁} {w₂} on met refuses =
       let kept = met .words in
       let counted : Becomes w₁ w₂ (countRefusal NoStation (sectionIn w)) (startIn w) =
-          becomes-as (refuses .words) (ap (countRefusal NoStation) (kept .section)) (kept .start) in
+      becomes-as (refuses .words) (ap (countRefusal NoStation) (kept .section)) (kept .start) in
       meet-by (Refused MayNotMeet) (ap₂ meetVerdict on (sym (met .may))) (refuses .answer) (becomes-then kept counted (λ less. less))
 
   pub meet-allowed : {w₁ : List ℕ} {given : Answer} → sectionIn w .force ≡ true → Met w w₁ x sender form true → given ≡ Accepted 0 0 NoSpeed

@@ -83,7 +83,7 @@ module _ (whose : Whose) where
   count-turns log {s = s} g (and-then {t = t} {l = l} own part later) few =
       let bytes = ownBytes log t in
       let one : countIn (t .after) ≡ countIn s + oneIf (isRefusedOf whose t) =
-          rw (own .did, own .said) at (count-step s bytes g (rw (own .did, own .said) (omega arith))) in
+      rw (own .did, own .said) at (count-step s bytes g (rw (own .did, own .said) (omega arith))) in
       let rest = count-turns log (rw (own .did) at (sound-step s bytes g)) later (omega arith) in
       omega arith
 
@@ -105,6 +105,6 @@ logs-counted log short =
     let turns = turnsOf fresh log in
     let few = turns-few (length log) fresh log 0 in
     let each : (whose : Whose) → countOf (sectionAfter fresh turns .refused) whose ≡ refusedIn whose turns =
-        λ whose. count-turns whose log (sound-emptied false noneRefused) (log-follows fresh log) (omega (arith, none-yet whose, refused-few whose turns))
-        ∙ omega (arith, none-yet whose) in
+    λ whose. count-turns whose log (sound-emptied false noneRefused) (log-follows fresh log) (omega (arith, none-yet whose, refused-few whose turns))
+    ∙ omega (arith, none-yet whose) in
     record { each = each; sum = omega (arith, entries-sum turns, each (Of A), each (Of B), each NoStation) }

@@ -1,5 +1,5 @@
--- What a taken entry's ranges say of its act: the class and what is asked and granted lie where document 01 has them.
--- The kind fixes which bits stand, and a field that is there lies in its range.
+-- What a taken entry's ranges say of its act: the class and what is asked and granted lie where document 01 has them; and how its kind and its station tell whose it is.
+-- The kind fixes which bits stand, and a field that is there lies in its range, while one that is absent is 0.
 -- Assumes nothing.
 use Prim.Native.Nat.{_+_, _<_, _≤_, ℕ}
 use Rattle.working.proofs.Clauses.{Carried, Few}
@@ -20,7 +20,7 @@ use Rattle.working.specs.declared.Station.{Station}
 use Rattle.working.specs.declared.Verdict.the-variants.{Allowed}
 use Rattle.working.specs.declared.Whose.the-variants.{NoStation, Of}
 use Rattle.working.specs.declared.Whose.{Whose}
-use borrow.Author.Tests.{eq-eqb, eqb-false, eqb-true, leb-true, not-true}
+use borrow.Author.Tests.{eqb-false, eqb-true, leb-true, not-true}
 use lib.Dec.{eqb, leb}
 use mathlib.Core.Bool.{Bool, _&&_, _||_, cond, false, false≢true, not, true}
 use mathlib.Core.List.{List, [], _∷_}
@@ -44,7 +44,7 @@ Ranged Resume = Unit {0}
 
 -- ---- the kind and the station that a listing prints, and whose the entry is
 
--- it has no station, or is a MEET: of no station; or it is its station's own
+-- it shows no station, or is a MEET, and is of no station; or it is that of the station shown
 pub data Placed (kind station : ℕ) : Whose → Type 0 where
   nowhere : station ≡ 0 → Placed kind station NoStation
   met : kind ≡ 7 → Placed kind station NoStation
@@ -119,37 +119,36 @@ module _ (e : Entry) (allowed : judge e ≡ Allowed) where
 
   -- ---- whose it is
 
-  -- a kind with bit 1 has a station, and one without has none
-  bit : (kind : ℕ) → eqb (e .kind) kind ≡ true → bitFits (rowOf kind) (e .map) 1 ≡ true
+  -- bit 1, the station's, stands where the kind has it
+  bit : (kind : ℕ) → e .kind ≡ kind → bitFits (rowOf kind) (e .map) 1 ≡ true
   unfolding mapFits
-  bit kind is = bit-fits (rowOf kind) (e .map) (0 ∷ 1 ∷ 2 ∷ 3 ∷ 4 ∷ 5 ∷ 6 ∷ 7 ∷ []) 1 (rw (eqb-true (e .kind) kind is) at (taken e allowed .fits)) refl
+  bit kind is = bit-fits (rowOf kind) (e .map) (0 ∷ 1 ∷ 2 ∷ 3 ∷ 4 ∷ 5 ∷ 6 ∷ 7 ∷ []) 1 (rw is at (taken e allowed .fits)) refl
 
   no-station : not (stands 1 (e .map)) ≡ true → Placed (e .kind) (e .station) NoStation
   no-station absent = nowhere (eqb-true (e .station) 0 (rw (not-true (stands 1 (e .map)) absent) at (taken e allowed .ranges .station)))
 
-  its-station : (kind : ℕ) → eqb (e .kind) kind ≡ true → kind < 7 → stands 1 (e .map) ≡ true → Placed (e .kind) (e .station) (Of (stationOf (e .station)))
-  its-station kind is low there =
-      let range = between (stands 1 (e .map)) 1 2 (e .station) there (taken e allowed .ranges .station) in
-      own (stationOf (e .station)) (by range (eqb (e .station) 1) refl) (omega (arith, eqb-true (e .kind) kind is))
+  its-station : e .kind < 7 → stands 1 (e .map) ≡ true → Placed (e .kind) (e .station) (Of (stationOf (e .station)))
+  its-station below there = own (stationOf (e .station)) (by (between (stands 1 (e .map)) 1 2 (e .station) there (taken e allowed .ranges .station)) (eqb (e .station) 1) refl) below
     where
       by : (1 ≤ e .station) × (e .station ≤ 2) → (b : Bool) → eqb (e .station) 1 ≡ b → e .station ≡ numberAt (cond b A B)
       by range true is = eqb-true (e .station) 1 is
       by range false is = omega (arith, eqb-false (e .station) 1 is)
 
-  pub placed : Placed (e .kind) (e .station) (whoseIs (Says (eventOf e)))
+  -- of this kind, or of a higher one
+  from : (P : Event → Type 0) (kind : ℕ) {x y : Event} → kind ≤ e .kind → (e .kind ≡ kind → P x) → (kind + 1 ≤ e .kind → P y) → P (cond (eqb (e .kind) kind) x y)
+  from P kind h its higher =
+      either P (eqb (e .kind) kind) (λ is. its (eqb-true (e .kind) kind is)) (λ other. higher (omega (arith, eqb-false (e .kind) kind other)))
+
+  placed : Placed (e .kind) (e .station) (whoseIs (Says (eventOf e)))
   placed =
       let P : Event → Type 0 = λ (event : Event). Placed (e .kind) (e .station) (whoseIs (Says event)) in
-      either P (eqb (e .kind) 1) (λ k. no-station (bit 1 k))
-      (λ k1. either P (eqb (e .kind) 2) (λ k. its-station 2 k (omega arith) (bit 2 k))
-      (λ k2. either P (eqb (e .kind) 3) (λ k. its-station 3 k (omega arith) (bit 3 k))
-      (λ k3. either P (eqb (e .kind) 4) (λ k. its-station 4 k (omega arith) (bit 4 k))
-      (λ k4. either P (eqb (e .kind) 5) (λ k. its-station 5 k (omega arith) (bit 5 k))
-      (λ k5. either P (eqb (e .kind) 6) (λ k. its-station 6 k (omega arith) (bit 6 k))
-      (λ k6. either P (eqb (e .kind) 7) (λ k. met (eqb-true (e .kind) 7 k)) (λ k7.
-      no-station (bit 8 (eq-eqb (e .kind) 8 (omega (arith, known .1, above 7 (above 6 (above 5 (above 4 (above 3 (above 2 (above 1 (known .0) k1) k2) k3) k4) k5) k6) k7)))))))))))
-    where
-      above : (kind : ℕ) → kind ≤ e .kind → eqb (e .kind) kind ≡ false → kind + 1 ≤ e .kind
-      above kind h other = omega (arith, eqb-false (e .kind) kind other)
+      from P 1 (known .0) (λ is. no-station (bit 1 is))
+      (λ h. from P 2 h (λ is. its-station (omega arith) (bit 2 is))
+      (λ h. from P 3 h (λ is. its-station (omega arith) (bit 3 is))
+      (λ h. from P 4 h (λ is. its-station (omega arith) (bit 4 is))
+      (λ h. from P 5 h (λ is. its-station (omega arith) (bit 5 is))
+      (λ h. from P 6 h (λ is. its-station (omega arith) (bit 6 is))
+      (λ h. from P 7 h (λ is. met is) (λ h. no-station (bit 8 (omega (arith, known .1))))))))))
 
 -- ---- what is read
 

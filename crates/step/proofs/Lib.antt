@@ -3,6 +3,7 @@ pub mod Becoming
 pub mod Ending
 pub mod Examples
 pub mod Filling
+pub mod Held
 pub mod LastLine
 pub mod Next
 pub mod Own

@@ -1,24 +1,30 @@
--- What a taken entry's ranges say of its act: the class and what is asked and granted lie where document 01 has them.
--- The kind fixes which bits stand, and a field that is there lies in its range.
+-- What a taken entry's ranges say of its act: the class and what is asked and granted lie where document 01 has them; and how its kind and its station tell whose it is.
+-- The kind fixes which bits stand, and a field that is there lies in its range, while one that is absent is 0.
 -- Assumes nothing.
-use Prim.Native.Nat.{_+_, _≤_, ℕ}
+use Prim.Native.Nat.{_+_, _<_, _≤_, ℕ}
 use Rattle.working.proofs.Clauses.{Carried, Few}
-use Rattle.working.proofs.Found.{Found, cut, found, the-end, whole}
+use Rattle.working.proofs.Found.{read-by}
 use Rattle.working.proofs.Judged.{taken}
 use Rattle.working.proofs.Tests.{both}
 use Rattle.working.specs.Acts as acts
 use Rattle.working.specs.Acts.{Act}
-use Rattle.working.specs.Entries.{Row, bitFits, entryIn, inRange, isIn, judge, lengthOf, mapFits, mapIn, readAs, rowFits, rowOf, stands}
-use Rattle.working.specs.Events.{At, Bad, Begin, Decoded, Event, Meet, Resume, Says, decode, decodedAs, eventOf}
+use Rattle.working.specs.Entries.{Row, bitFits, inRange, isIn, judge, mapFits, readAt, rowFits, rowOf, stands}
+use Rattle.working.specs.Events.{At, Bad, Begin, Decoded, Event, Meet, Resume, Says, decode, decodedAs, eventOf, stationOf}
+use Rattle.working.specs.Sections.{numberAt}
+use Rattle.working.specs.Steps.{whoseIs}
+use Rattle.working.specs.Turns.{kindRead, stationRead}
 use Rattle.working.specs.declared.Entry.{Entry}
 use Rattle.working.specs.declared.Refusal.{Refusal}
-use Rattle.working.specs.declared.Verdict.the-variants.{Allowed, Refused}
-use Rattle.working.specs.declared.Verdict.{Verdict}
-use borrow.Author.Tests.{eqb-true, leb-true}
+use Rattle.working.specs.declared.Station.the-variants.{A, B}
+use Rattle.working.specs.declared.Station.{Station}
+use Rattle.working.specs.declared.Verdict.the-variants.{Allowed}
+use Rattle.working.specs.declared.Whose.the-variants.{NoStation, Of}
+use Rattle.working.specs.declared.Whose.{Whose}
+use borrow.Author.Tests.{eqb-false, eqb-true, leb-true, not-true}
 use lib.Dec.{eqb, leb}
-use mathlib.Core.Bool.{Bool, _||_, cond, false, false≢true, true}
+use mathlib.Core.Bool.{Bool, _&&_, _||_, cond, false, false≢true, not, true}
 use mathlib.Core.List.{List, [], _∷_}
-use mathlib.Core.Path.{_∙_, _≡_, ap, refl, subst, sym}
+use mathlib.Core.Path.{_≡_, refl, subst}
 use native.Mathlib.Omega.{arith}
 
 -- ---- the act by name
@@ -35,6 +41,14 @@ Ranged Begin = Unit {0}
 Ranged (At x time act) = ActMade act
 Ranged (Meet x sender form) = Unit {0}
 Ranged Resume = Unit {0}
+
+-- ---- the kind and the station that a listing prints, and whose the entry is
+
+-- it shows no station, or is a MEET, and is of no station; or it is that of the station shown
+pub data Placed (kind station : ℕ) : Whose → Type 0 where
+  nowhere : station ≡ 0 → Placed kind station NoStation
+  met : kind ≡ 7 → Placed kind station NoStation
+  own : (x : Station) → station ≡ numberAt x → kind < 7 → Placed kind station (Of x)
 
 -- ---- a field
 
@@ -72,6 +86,11 @@ bad-says e = subst isBad e tt
 -- ---- a taken entry
 
 module _ (e : Entry) (allowed : judge e ≡ Allowed) where
+  known : (1 ≤ e .kind) × (e .kind ≤ 8)
+  known =
+      let range = both (leb 1 (e .kind)) (leb (e .kind) 8) (both (stands 0 (e .map)) (leb 1 (e .kind) && leb (e .kind) 8) (taken e allowed .known) .1) in
+      (leb-true 1 (e .kind) (range .0), leb-true (e .kind) 8 (range .1))
+
   few : Few (e .asked) (e .granted)
   few =
       let r = taken e allowed .ranges in
@@ -98,19 +117,53 @@ module _ (e : Entry) (allowed : judge e ≡ Allowed) where
       (λ k. either Ranged (eqb (e .kind) 6) (λ k. tt)
       (λ k. either Ranged (eqb (e .kind) 7) (λ k. tt) (λ k. tt)))))))
 
+  -- ---- whose it is
+
+  -- bit 1, the station's, stands where the kind has it
+  bit : (kind : ℕ) → e .kind ≡ kind → bitFits (rowOf kind) (e .map) 1 ≡ true
+  unfolding mapFits
+  bit kind is = bit-fits (rowOf kind) (e .map) (0 ∷ 1 ∷ 2 ∷ 3 ∷ 4 ∷ 5 ∷ 6 ∷ 7 ∷ []) 1 (rw is at (taken e allowed .fits)) refl
+
+  no-station : not (stands 1 (e .map)) ≡ true → Placed (e .kind) (e .station) NoStation
+  no-station absent = nowhere (eqb-true (e .station) 0 (rw (not-true (stands 1 (e .map)) absent) at (taken e allowed .ranges .station)))
+
+  its-station : e .kind < 7 → stands 1 (e .map) ≡ true → Placed (e .kind) (e .station) (Of (stationOf (e .station)))
+  its-station below there = own (stationOf (e .station)) (by (between (stands 1 (e .map)) 1 2 (e .station) there (taken e allowed .ranges .station)) (eqb (e .station) 1) refl) below
+    where
+      by : (1 ≤ e .station) × (e .station ≤ 2) → (b : Bool) → eqb (e .station) 1 ≡ b → e .station ≡ numberAt (cond b A B)
+      by range true is = eqb-true (e .station) 1 is
+      by range false is = omega (arith, eqb-false (e .station) 1 is)
+
+  -- of this kind, or of a higher one
+  from : (P : Event → Type 0) (kind : ℕ) {x y : Event} → kind ≤ e .kind → (e .kind ≡ kind → P x) → (kind + 1 ≤ e .kind → P y) → P (cond (eqb (e .kind) kind) x y)
+  from P kind h its higher =
+      either P (eqb (e .kind) kind) (λ is. its (eqb-true (e .kind) kind is)) (λ other. higher (omega (arith, eqb-false (e .kind) kind other)))
+
+  placed : Placed (e .kind) (e .station) (whoseIs (Says (eventOf e)))
+  placed =
+      let P : Event → Type 0 = λ (event : Event). Placed (e .kind) (e .station) (whoseIs (Says event)) in
+      from P 1 (known .0) (λ is. no-station (bit 1 is))
+      (λ h. from P 2 h (λ is. its-station (omega arith) (bit 2 is))
+      (λ h. from P 3 h (λ is. its-station (omega arith) (bit 3 is))
+      (λ h. from P 4 h (λ is. its-station (omega arith) (bit 4 is))
+      (λ h. from P 5 h (λ is. its-station (omega arith) (bit 5 is))
+      (λ h. from P 6 h (λ is. its-station (omega arith) (bit 6 is))
+      (λ h. from P 7 h (λ is. met is) (λ h. no-station (bit 8 (omega (arith, known .1))))))))))
+
+-- ---- what is read
+
 -- bytes that come to an event
 pub ranged-of : (bytes : List ℕ) (event : Event) → decode bytes ≡ Says event → Ranged event
 unfolding decode
-ranged-of bytes event h = by-found (found bytes 0)
-  where
-    entry : Entry
-    entry = entryIn bytes
+ranged-of bytes event =
+    read-by (λ read. decodedAs read ≡ Says event → Ranged event) (λ h. absurd (bad-says h)) (λ why next h. absurd (bad-says h))
+    (λ e next allowed h. let same : eventOf e ≡ event = cc in rw same at (ranged e allowed))
+    bytes 0
 
-    by-verdict : (v : Verdict) → judge entry ≡ v → decodedAs (readAs v entry (0 + lengthOf (mapIn bytes))) ≡ Says event → Ranged event
-    by-verdict Allowed allowed is = let same : eventOf entry ≡ event = cc in rw same at (ranged entry allowed)
-    by-verdict (Refused why) allowed is = absurd (bad-says is)
+-- the kind of the entry at a position of a log, and whose it is
+pub kind-at : (log : List ℕ) (at : ℕ) → kindRead (readAt log at) ≤ 8
+kind-at = read-by (λ read. kindRead read ≤ 8) (omega arith) (λ why next. omega arith) (λ e next allowed. known e allowed .1)
 
-    by-found : Found bytes 0 → Ranged event
-    by-found (the-end r) = absurd (bad-says (sym (ap decodedAs r) ∙ h))
-    by-found (cut r) = absurd (bad-says (sym (ap decodedAs r) ∙ h))
-    by-found (whole fits r) = by-verdict (judge entry) refl (sym (ap decodedAs r) ∙ h)
+pub placed-at : (log : List ℕ) (at : ℕ) → Placed (kindRead (readAt log at)) (stationRead (readAt log at)) (whoseIs (decodedAs (readAt log at)))
+placed-at =
+    read-by (λ read. Placed (kindRead read) (stationRead read) (whoseIs (decodedAs read))) (nowhere refl) (λ why next. nowhere refl) (λ e next allowed. placed e allowed)

@@ -68,7 +68,7 @@ deskAt figures at d =
     (intervalOf (byteAt figures (at + 5)) (numberAt figures (at + 6)))
     (eqb (byteAt figures (at + 8)) 1) (byteAt figures (at + 9)) (clearsAt figures (at + 10)) d
 
--- "entries refused for A, for B, and of no station"
+-- entries refused for A, for B, and of no station, four bytes each
 abbrev pub countsAt : List ℕ → ℕ → Counts
 countsAt figures at = record { a = wideAt figures at; b = wideAt figures (at + 4); none = wideAt figures (at + 8) }
 

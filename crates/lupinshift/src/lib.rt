@@ -59,8 +59,8 @@ pub extern "C" fn lupin_begin(log: &[u8], words: &mut [u64]) -> usize
 }
 
 // The next lines of a log's listing at the front of the buffer lent, as many as find room, and how many bytes they are. The bytes behind them keep their values. The words
-// say where the listing stands, and are left where it goes on. A buffer of fewer than 214 bytes, the longest line, takes no line; of any longer one the answer is 0 only
-// where the listing has ended. Fewer words than `STATE_WORDS`, and the buffer, keep their values, and the answer is 0.
+// say where the listing stands, and are left where it goes on. A buffer of fewer than 214 bytes, the longest line, takes no line; with 214 or more the answer is 0
+// only where the listing has ended. Fewer words than `STATE_WORDS`, and the buffer, keep their values, and the answer is 0.
 #[no_mangle]
 pub extern "C" fn lupin_fill(words: &mut [u64], log: &[u8], out: &mut [u8]) -> usize
     ensures { λ r. ⌜ FillsOn (now (words .entry)) (now (log .entry)) (now (out .entry)) r (now (words .exit)) (now (out .exit)) ⌝ }

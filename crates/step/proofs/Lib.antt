@@ -1,9 +1,9 @@
 pub mod Advancing
 pub mod Becoming
+pub mod Containing
 pub mod Ending
 pub mod Examples
 pub mod Filling
-pub mod Held
 pub mod LastLine
 pub mod Next
 pub mod Own

@@ -1,5 +1,5 @@
 -- A station's desk is put: all other words are as they were, so that they stand for the section with that desk; and a section's own words become those of
--- the section with it.
+-- the section with it. And one of the counts is put, likewise.
 -- Assumes nothing.
 use Prim.Native.Nat.{_%_, _+_, _-_, _<_, _≤_, suc, zero, ℕ}
 use Rattle.words.proofs.Packing.{one-back}
@@ -161,7 +161,7 @@ start-count (Of A) w n = refl
 start-count (Of B) w n = refl
 start-count NoStation w n = refl
 
-pub count-at : (whose : Whose) (w : List ℕ) → countOf (sectionIn w .refused) whose ≡ countIn w whose
+count-at : (whose : Whose) (w : List ℕ) → countOf (sectionIn w .refused) whose ≡ countIn w whose
 unfolding sectionIn
 count-at (Of A) w = refl
 count-at (Of B) w = refl

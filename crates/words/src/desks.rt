@@ -1,7 +1,8 @@
-// What a section holds but for its vehicles, in lent words: how many they are, in force, the counts of refused entries, the ring's start, and a word for each figure of the two desks.
+// What a section holds but for its vehicles, in lent words: how many they are, in force, entries refused, the ring's start, and a word for each figure of the two desks.
 ghost use Prim.Native.Nat.{_+_, _<_, _≤_};
 ghost use Rattle.words.specs.Stores.{DeskPut};
-ghost use Rattle.words.specs.Words.{Becomes, DeskBecomes, countIn, countPlace, deskFrom, deskRead, deskWordsIn, intervalIn, sectionIn, startIn, startPlace, withDeparture, withReceipt};
+ghost use Rattle.words.specs.Words.{Becomes, DeskBecomes, sectionIn, startIn, startPlace, withDeparture, withReceipt};
+ghost use Rattle.words.specs.Words.{countIn, countPlace, deskFrom, deskRead, deskWordsIn, intervalIn};
 ghost use Rattle.working.specs.Sections.{countRefusal, deskOf, oneMore, withClears, withEntered, withGuest, withInterval, withOut};
 ghost use Rattle.working.specs.WellMade.{deskLength};
 ghost use Rattle.working.specs.declared.Interval.the-variants.{Stopped};

@@ -20,7 +20,7 @@ use Rattle.working.specs.declared.Answer.{Answer}
 use Rattle.working.specs.declared.Interval.the-variants.{Since, Stopped}
 use Rattle.working.specs.declared.Movement.the-variants.{Open, Return, Through, Train}
 use Rattle.working.specs.declared.Movement.{Movement}
-use Rattle.working.specs.declared.Refusal.the-variants.{EndsInside, NoGuest, UnknownKind}
+use Rattle.working.specs.declared.Refusal.the-variants.{AlreadyInForce, EndsInside, NoGuest, UnknownKind}
 use Rattle.working.specs.declared.Section.{Section}
 use Rattle.working.specs.declared.Speed.the-variants.{Booked, Kmh, NoSpeed, Walking}
 use Rattle.working.specs.declared.Speed.{Speed}
@@ -312,7 +312,7 @@ departures-exchanged =
     (other-differs B) (λ r. true≢false (ap isDeparture (r .1)))
 
 -- behind no bytes, which are refused, A opens, holds two line clears and sends its first train. A's second train and B's receipt of the first are neighbours, and
--- behind them come B's receipt of the second, bytes that are no entry, a THROUGH of B, and RETURNs with no guest, two of B and one of A.
+-- behind them come B's receipt of the second, bytes that are no entry, a THROUGH of B, RETURNs with no guest, two of B and one of A, and BEGIN again.
 abbrev oneSent : List Done
 oneSent =
     inMemory [] (Refused EndsInside)
@@ -338,6 +338,7 @@ behind =
     ∷ inMemory (returns 2 160 1) (Refused NoGuest)
     ∷ returned (returns 2 160 1) (Refused NoGuest)
     ∷ returned (returns 1 160 1) (Refused NoGuest)
+    ∷ inMemory begin (Refused AlreadyInForce)
     ∷ []
 
 abbrev sentThenTaken : List Todo
@@ -363,7 +364,7 @@ train-and-receipt-exchanged = (
 
 -- the sections that these lists end in, in figures
 abbrev ended : Section
-ended = working (counts 1 2 2) (vehicle Through 2 2 1 false 1 ∷ []) (figures 121 3 2 (Since 121) false 0 0 0 0) (figures 155 2 1 (Since 155) false 0 0 0 0)
+ended = working (counts 1 2 3) (vehicle Through 2 2 1 false 1 ∷ []) (figures 121 3 2 (Since 121) false 0 0 0 0) (figures 155 2 1 (Since 155) false 0 0 0 0)
 
 exchanged-ends :
     every

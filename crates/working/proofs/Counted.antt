@@ -1,6 +1,6 @@
 -- The figures of a log's last line: each of the three counts that the section at the end has is the number of refused turns that are theirs, and entries = accepted
 -- + the three. A step on a well-made section leaves a count as it is, or adds 1 where it refuses and the step is theirs; a log has no more entries than bytes, so that
--- no count comes to its largest value.
+-- no count would go past its largest value.
 -- Assumes nothing.
 use Prim.Native.Nat.{_+_, _≤_, ℕ}
 use Rattle.working.proofs.Changes.{Change, Sound, arrival, change, departure, emptying, meeting, refusal, sound-emptied, sound-step}
@@ -76,8 +76,8 @@ module _ (whose : Whose) where
 
   -- ---- a log
 
-  -- the turns refused add to the count, where it does not come to its largest value
-  pub count-turns : (log : List ℕ) {l : List Turn} {s : Section} {at : ℕ} → Sound s → Follow log s at l → countIn s + refusedIn whose l ≤ 4294967295
+  -- the turns refused add to the count, where the sum is not past its largest value
+  count-turns : (log : List ℕ) {l : List Turn} {s : Section} {at : ℕ} → Sound s → Follow log s at l → countIn s + refusedIn whose l ≤ 4294967295
       → countIn (sectionAfter s l) ≡ countIn s + refusedIn whose l
   count-turns log g (over end) few = omega arith
   count-turns log {s = s} g (and-then {t = t} {l = l} own part later) few =

@@ -1,4 +1,4 @@
--- Sentences of document 01, each as one computed equation.
+-- Sentences of document 01, and of T-01 in document 02, each as one computed equation.
 -- Assumes nothing.
 use Prim.Native.Nat.{ℕ}
 use Rattle.working.proofs.Computing.{reading-computes, step-computes, turns-compute}
@@ -31,7 +31,7 @@ ill = record { vehicles = padTo 24 []; len = 1; force = true; refused = counts 7
 abbrev refusing : ℕ → ℕ → ℕ → Section
 refusing a b none = emptied false (counts a b none)
 
--- refused of no station, and for a station: no bytes, and an OPEN where the working is not in force
+-- an OPEN of station x, refused for it where the working is not in force
 abbrev opening : Station → List ℕ
 opening x = opens (numberAt x) 10 1 2
 

@@ -65,43 +65,49 @@ static void no_places(void)
     expect(lupin_fill(NULL, 0, NULL, 0, NULL, 0) == 0, "lupin_fill, nothing");
 }
 
-/* A log whose last line has three counts that differ, a vehicle present, and line clears that A holds and that B owes. */
-static void every_figure(void)
+/* A log whose last line has three counts that differ and a vehicle present; x then holds two line clears, and y owes three. */
+#define SHOWING(x, y)                                              \
+    {                                                              \
+        0x1F, 3, x, 0, 0, 1, 1,    /* THROUGH: 7, for x */         \
+        0x1F, 3, y, 0, 0, 1, 1,    /* THROUGH: 7, for y */         \
+        0x1F, 3, y, 0, 0, 1, 1,    /* and again */                 \
+        0x83, 7, x, x, 0, 1,       /* MEET: 7, of no station */    \
+        0x01, 8,                   /* RESUME: 7, of no station */  \
+        0x1F, 3, x, 0, 0, 1, 2,    /* class 2: 4, of no station */ \
+        0x01, 1,                   /* BEGIN keeps the counts */    \
+        0x3F, 2, x, 0, 0, 1, 1, 3, /* OPEN, asks for 3 */          \
+        0x87, 6, y, 0, 9, x, 0, 1, /* RECEIVE */                   \
+        0x47, 4, y, 0, 9, 3,       /* RETURN, grants 3 */          \
+        0x87, 6, x, 0, 9, y, 0, 1, /* RECEIVE */                   \
+        0x0F, 5, x, 0, 9, 1,       /* TRAIN */                     \
+    }
+
+static void figures_are(const uint8_t *log, size_t len, const char *line, const uint64_t *wanted)
 {
-    static const uint8_t log[] = {
-        0x1F, 3, 1, 0, 0, 1, 1,       /* THROUGH at A: 7, for A */
-        0x1F, 3, 2, 0, 0, 1, 1,       /* THROUGH at B: 7, for B */
-        0x1F, 3, 2, 0, 0, 1, 1,       /* and again */
-        0x83, 7, 1, 1, 0, 1,          /* MEET to A: 7, of no station */
-        0x01, 8,                      /* RESUME: 7, of no station */
-        0x1F, 3, 1, 0, 0, 1, 2,       /* THROUGH at A, class 2: 4, of no station */
-        0x01, 1,                      /* BEGIN, which keeps the counts */
-        0x3F, 2, 1, 0, 0, 1, 1, 3,    /* OPEN at A, asks for 3 */
-        0x87, 6, 2, 0, 9, 1, 0, 1,    /* RECEIVE at B */
-        0x47, 4, 2, 0, 9, 3,          /* RETURN at B, grants 3 */
-        0x87, 6, 1, 0, 9, 2, 0, 1,    /* RECEIVE at A */
-        0x0F, 5, 1, 0, 9, 1,          /* TRAIN at A */
-    };
-    static const char line[] = "end 12 6 1 2 3 1 2 0 0 3\n";
-    static const uint64_t wanted[LUPIN_FIGURES] = {
-        [LUPIN_ENTRIES] = 12,
-        [LUPIN_ACCEPTED] = 6,
-        [LUPIN_REFUSED_FOR_A] = 1,
-        [LUPIN_REFUSED_FOR_B] = 2,
-        [LUPIN_REFUSED_OF_NONE] = 3,
-        [LUPIN_PRESENT] = 1,
-        [LUPIN_A_HOLDS] = 2,
-        [LUPIN_A_OWES] = 0,
-        [LUPIN_B_HOLDS] = 0,
-        [LUPIN_B_OWES] = 3,
-    };
     uint64_t figures[LUPIN_FIGURES];
     uint8_t out[LUPIN_LONGEST_LINE];
 
-    expect(lupin_figures(log, sizeof log, figures, LUPIN_FIGURES) == LUPIN_FIGURES, "lupin_figures, every figure: how many");
-    expect(memcmp(figures, wanted, sizeof wanted) == 0, "lupin_figures, every figure");
-    expect(lupin_end(log, sizeof log, out, sizeof out) == strlen(line), "lupin_end, every figure: the length");
+    expect(lupin_figures(log, len, figures, LUPIN_FIGURES) == LUPIN_FIGURES, "lupin_figures, every figure: how many");
+    expect(memcmp(figures, wanted, sizeof figures) == 0, "lupin_figures, every figure");
+    expect(lupin_end(log, len, out, sizeof out) == strlen(line), "lupin_end, every figure: the length");
     expect(memcmp(out, line, strlen(line)) == 0, "lupin_end, every figure");
+}
+
+/* Each figure at its place: of the two logs together no two places are the same. */
+static void every_figure(void)
+{
+    static const uint8_t a_holds[] = SHOWING(1, 2), b_holds[] = SHOWING(2, 1);
+    static const uint64_t for_a[LUPIN_FIGURES] = {
+        [LUPIN_ENTRIES] = 12,        [LUPIN_ACCEPTED] = 6, [LUPIN_REFUSED_FOR_A] = 1, [LUPIN_REFUSED_FOR_B] = 2,
+        [LUPIN_REFUSED_OF_NONE] = 3, [LUPIN_PRESENT] = 1,  [LUPIN_A_HOLDS] = 2,       [LUPIN_B_OWES] = 3,
+    };
+    static const uint64_t for_b[LUPIN_FIGURES] = {
+        [LUPIN_ENTRIES] = 12,        [LUPIN_ACCEPTED] = 6, [LUPIN_REFUSED_FOR_A] = 2, [LUPIN_REFUSED_FOR_B] = 1,
+        [LUPIN_REFUSED_OF_NONE] = 3, [LUPIN_PRESENT] = 1,  [LUPIN_B_HOLDS] = 2,       [LUPIN_A_OWES] = 3,
+    };
+
+    figures_are(a_holds, sizeof a_holds, "end 12 6 1 2 3 1 2 0 0 3\n", for_a);
+    figures_are(b_holds, sizeof b_holds, "end 12 6 2 1 3 1 0 3 2 0\n", for_b);
 }
 
 /* Buffers with just the room, and with a place less. */

@@ -10,7 +10,7 @@ use working::Refusal;
 use working::Speed;
 use working::Whose;
 
-// A refusal: one more in the count of those whose it is, and nothing else altered.
+// A refusal: one more in the count that it belongs to, and nothing else altered.
 pub(crate) fn refuse(words: &mut Words, whose: Whose, why: Refusal) -> Answer
     ensures { λ r. ⌜ Refuses (now (words .entry)) whose why r (now (words .exit)) ⌝ }
 {

@@ -199,7 +199,7 @@ pub(crate) fn put_desk(words: &mut Words, at: Station, d: Desk)
     }
 }
 
-// Where the count of those whose a refusal is stands.
+// The place of the count that a refusal belongs to.
 fn count_place(whose: Whose) -> usize
     ensures { λ r. ⌜ (r ≡ countPlace whose) × (r < startPlace) ⌝ }
 {
@@ -212,7 +212,7 @@ fn count_place(whose: Whose) -> usize
     }
 }
 
-// Their count.
+// What is counted there.
 fn count(words: &Words, whose: Whose) -> u32
     ensures { λ r. ⌜ r ≡ countIn (now (words .entry)) whose ⌝ }
 {
@@ -241,7 +241,7 @@ pub fn refused(words: &Words) -> Counts
     }
 }
 
-// One more entry is refused, theirs whose it is; each count stops at its own largest value.
+// One more entry is refused: one more in the count that it belongs to, which stops at its own largest value.
 pub fn count_refusal(words: &mut Words, whose: Whose)
     ensures { λ _. ⌜ Becomes (now (words .entry)) (now (words .exit)) (countRefusal whose (sectionIn (now (words .entry)))) (startIn (now (words .entry))) ⌝ }
 {

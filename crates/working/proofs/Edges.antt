@@ -16,7 +16,8 @@ use Rattle.working.specs.declared.Answer.{Answer}
 use Rattle.working.specs.declared.Counts.{Counts}
 use Rattle.working.specs.declared.Interval.the-variants.{Since, Stopped}
 use Rattle.working.specs.declared.Movement.the-variants.{Open, Return, Through, Train}
-use Rattle.working.specs.declared.Refusal.the-variants.{BeforeClock, EndsInside, FormsUsed, GrantNotAllowed, IntervalRunning, MayNotEnter, NoGuest, NotNearest, OutOfRange, TwelveSent, UnknownKind}
+use Rattle.working.specs.declared.Refusal.the-variants.{BeforeClock, EndsInside, FormsUsed, GrantNotAllowed, IntervalRunning, MayNotEnter, NoGuest, NotNearest, OutOfRange}
+use Rattle.working.specs.declared.Refusal.the-variants.{TwelveSent, UnknownKind}
 use Rattle.working.specs.declared.Refusal.{Refusal}
 use Rattle.working.specs.declared.Section.{Section}
 use Rattle.working.specs.declared.Speed.the-variants.{Booked, Kmh, Walking}
@@ -84,7 +85,7 @@ met = after begun (opens 1 1 1 1 ∷ opens 2 1 1 1 ∷ meet 2 1 1 ∷ [])
 abbrev pub row : Section → List ℕ → Answer → Section → Edge
 row before bytes expected leaves = record { before = before; bytes = bytes; expected = expected; leaves = leaves }
 
--- "A refusal adds 1 to the count and alters nothing else": to that of those whose it is, where that is below its largest value
+-- "A refusal adds 1 to the count and alters nothing else": to the one that it belongs to, where that is below its largest value
 abbrev plusOne : Whose → Counts → Counts
 plusOne (Of A) c = counts (c .a + 1) (c .b) (c .none)
 plusOne (Of B) c = counts (c .a) (c .b + 1) (c .none)

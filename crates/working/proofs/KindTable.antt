@@ -12,7 +12,8 @@ use Rattle.working.specs.declared.Desk.{Desk}
 use Rattle.working.specs.declared.Interval.the-variants.{Since, Stopped}
 use Rattle.working.specs.declared.Movement.the-variants.{Open, Return, Through, Train}
 use Rattle.working.specs.declared.Movement.{Movement}
-use Rattle.working.specs.declared.Refusal.the-variants.{AlreadyInForce, BeforeClock, FormsUsed, GrantNotAllowed, GuestHere, HoldsLineClear, IntervalRunning, MayNotEnter, MayNotMeet, NoGuest, NoLineClear, NotInForce, NotNearest, OpenerAway, OwesLineClear, TwelveSent, VehiclePresent}
+use Rattle.working.specs.declared.Refusal.the-variants.{AlreadyInForce, BeforeClock, FormsUsed, GrantNotAllowed, GuestHere, HoldsLineClear, IntervalRunning, MayNotEnter}
+use Rattle.working.specs.declared.Refusal.the-variants.{MayNotMeet, NoGuest, NoLineClear, NotInForce, NotNearest, OpenerAway, OwesLineClear, TwelveSent, VehiclePresent}
 use Rattle.working.specs.declared.Section.{Section}
 use Rattle.working.specs.declared.Speed.the-variants.{Booked, Kmh, Walking}
 use Rattle.working.specs.declared.Speed.{Speed}

@@ -43,7 +43,7 @@ whoseIs (Says (At x time act)) = Of x
 whoseIs (Says (Meet x sender form)) = NoStation
 whoseIs (Says Resume) = NoStation
 
--- "A refusal adds 1 to the count and alters nothing else": to the count of those whose the step is
+-- "A refusal adds 1 to the count and alters nothing else": to the count that the step belongs to
 abbrev pub refused : Section → Decoded → Refusal → Stepped
 refused s step why = record { answer = answer.Refused why; section = countRefusal (whoseIs step) s }
 

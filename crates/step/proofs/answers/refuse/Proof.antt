@@ -1,4 +1,4 @@
--- `answers::refuse` meets its contract: one more in the count of those whose it is, and nothing else.
+-- `answers::refuse` meets its contract: one more in the count that it belongs to, and nothing else.
 -- Assumes nothing.
 use Rattle.step.proofs.answers.refuse.Statement.{statement}
 use Rattle.step.proofs.answers.refuse.Tie as tie

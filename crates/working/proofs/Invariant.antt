@@ -1,27 +1,28 @@
 -- The invariant behind demand 3, and that each kind of departure and receipt keeps it. It is stated from one station's side: its desk d, the other's desk o, and what
 -- the vehicles of each left on, nearest their sender first (`mine`, `theirs`); so no proof here names A or B. docs/THEOREM.md has the clauses in words:
---     SUM     owes = the other's holds + the other's trains + what the own vehicles grant      `sum`
+--     SUM     owes = the other's holds + what waits at the other + the other's trains + what the own vehicles grant      `sum`
 --     OUT     out says whether the opener is away: a guest at the other end, the own OPEN, or the other's RETURN nearest here      `outs`
---     GUEST   a desk with a guest: nothing in the section, no guest opposite, holds and owes nothing      `guests`
---     HOLDS   a desk that holds a line clear: owes nothing, and every vehicle is a TRAIN of its own      `holding`
---     NEAR    an OPEN, and a vehicle with a grant, is nearest its sender      `row`, by `Ahead`
+--     GUEST   a desk with a guest: nothing in the section, no guest opposite, holds and owes nothing, and nothing waits      `guests`
+--     HOLDS   a desk that holds a line clear: the other holds none, nothing waits here, and every vehicle is a TRAIN of its own      `holding`
+--     WAIT    a desk where line clears wait: it owes, holds none, and every vehicle is a TRAIN of the other that grants nothing      `waits`
+--     NEAR    an OPEN is nearest its sender; nearer it than a vehicle with a grant there are only TRAINs that grant nothing      `row`, by `Ahead`
 --     RETURN  a RETURN is nearest the other station      `row`, by `Ahead`; `clear`
 --     FRONT   ahead of a RETURN or TRAIN there are only such, of the same sender      `row`, by `Ahead`; `clear`
 -- Assumes nothing.
 use Prim.Native.Nat.{_+_, _-_, _<_, ℕ}
 use Rattle.working.proofs.Every.{Every, every-before, every-map}
 use Rattle.working.proofs.Reasons.{OpenPasses, ReturnPasses, TrainPasses}
-use Rattle.working.proofs.Tests.{clash, no-test, or-left, or-right, zero-test, zero-unless}
-use Rattle.working.specs.Demand3.{grantedIn}
+use Rattle.working.proofs.Tests.{clash, no-test, or-left, or-right, some-test, zero-test, zero-unless}
 use Rattle.working.specs.Departures.{isTrain, kindIn}
-use Rattle.working.specs.Effects.{departed, ifAny, otherDesk, received, returnDesk, trainDesk}
+use Rattle.working.specs.Effects.{departed, grantedIn, ifAny, otherDesk, received, releasedClears, replied, repliedClears, returnDesk, trainDesk}
 use Rattle.working.specs.Sections.{withOut}
 use Rattle.working.specs.WellMade.{isOpener, oneIf}
+use Rattle.working.specs.declared.Clears.{Clears}
 use Rattle.working.specs.declared.Desk.{Desk}
 use Rattle.working.specs.declared.Movement.the-variants.{Open, Return, Through, Train}
 use Rattle.working.specs.declared.Movement.{Movement}
-use borrow.Author.Tests.{lt-ltb, ltb-false}
-use lib.Dec.{ltb}
+use borrow.Author.Tests.{eqb-true, lt-ltb, ltb-false, ltb-true}
+use lib.Dec.{eqb, ltb}
 use mathlib.Core.Bool.{Bool, _||_, cond, false, false≢true, or-true, true, true≢false}
 use mathlib.Core.List.{List, [], _++_, _∷_}
 use mathlib.Core.Path.{_∙_, _≡_, ap, ap₂, refl, sym}
@@ -61,17 +62,18 @@ trains l = weigh trainOne l
 abbrev pub granted : List Movement → ℕ
 granted l = weigh grantedIn l
 
--- no OPEN and no grant
-pub record Modest (m : Movement) : Type 0 where
-  pub no-open : isOpen m ≡ false
+-- a TRAIN that grants nothing
+pub record Bare (m : Movement) : Type 0 where
+  pub train : Trains m
   pub grants : grantedIn m ≡ 0
 
 -- n may stand ahead of m, both of one station, n the farther from their sender
 pub record Ahead (m n : Movement) : Type 0 where
   -- RETURN: ahead of a RETURN there is nothing
   pub return : isReturn m ≡ false
-  -- NEAR: what is ahead is no OPEN and grants nothing
-  pub modest : Modest n
+  -- NEAR: what is ahead is no OPEN, and grants nothing unless it is followed by TRAINs that grant nothing
+  pub no-open : isOpen n ≡ false
+  pub grants : 0 < grantedIn n → Bare m
   -- FRONT: ahead of a fast one all are fast
   pub fast : isOpener m ≡ false → isOpener n ≡ false
 
@@ -89,18 +91,26 @@ abbrev pub awayAt : List Movement → List Movement → Bool
 awayAt [] theirs = lastReturn theirs
 awayAt (m ∷ l) theirs = isOpen m
 
--- what GUEST says of a desk with a guest, and HOLDS of one that holds a line clear
+-- what GUEST says of a desk with a guest, HOLDS of one that holds a line clear, and WAIT of one where line clears wait
 pub record Visited (d o : Desk) (mine theirs : List Movement) : Type 0 where
   pub none : mine ≡ []
   pub none-far : theirs ≡ []
   pub guest : o .guest ≡ 0
   pub holds : d .clears .holds ≡ 0
   pub owes : d .clears .owes ≡ 0
+  pub waiting : d .clears .waiting ≡ 0
 
-pub record Holding (d : Desk) (mine theirs : List Movement) : Type 0 where
-  pub owes : d .clears .owes ≡ 0
+pub record Holding (d o : Desk) (mine theirs : List Movement) : Type 0 where
+  pub far-holds : o .clears .holds ≡ 0
+  pub waiting : d .clears .waiting ≡ 0
   pub none-far : theirs ≡ []
   pub trains : Every Trains mine
+
+pub record Waits (d : Desk) (mine theirs : List Movement) : Type 0 where
+  pub owes : 0 < d .clears .owes
+  pub holds : d .clears .holds ≡ 0
+  pub none : mine ≡ []
+  pub bare : Every Bare theirs
 
 -- a fast vehicle has nothing of the other station ahead
 pub data Clear (mine theirs : List Movement) : Type 0 where
@@ -108,10 +118,11 @@ pub data Clear (mine theirs : List Movement) : Type 0 where
   no-far : theirs ≡ [] → Clear mine theirs
 
 pub record Half (d o : Desk) (mine theirs : List Movement) : Type 0 where
-  pub sum : d .clears .owes ≡ o .clears .holds + trains theirs + granted mine
+  pub sum : d .clears .owes ≡ o .clears .holds + o .clears .waiting + trains theirs + granted mine
   pub outs : d .out ≡ (ltb 0 (o .guest) || awayAt mine theirs)
   pub guests : 0 < d .guest → Visited d o mine theirs
-  pub holding : 0 < d .clears .holds → Holding d mine theirs
+  pub holding : 0 < d .clears .holds → Holding d o mine theirs
+  pub waits : 0 < d .clears .waiting → Waits d mine theirs
   pub row : InRow mine
   pub clear : Clear mine theirs
 
@@ -181,28 +192,43 @@ openers-of (Return a g ∷ []) h t r = absurd (true≢false r)
 openers-of (Return a g ∷ m ∷ l) ((ahead, others), row) t r = absurd (true≢false (ahead .return))
 openers-of (Train a g ∷ l) h t r = absurd (omega arith)
 
--- nearest is no OPEN, and there are no grants
-modest-of : (l theirs : List Movement) → InRow l → awayAt l theirs ≡ false → granted l ≡ 0 → Every Modest l
-modest-of [] t h e g = tt
-modest-of (m ∷ l) t h e g = (record { no-open = e; grants = omega arith }, every-map (Ahead m) Modest (λ n k. k .modest) l (h .0))
+-- no OPEN, where the nearest is none
+abbrev NoOpen : Movement → Type 0
+NoOpen m = isOpen m ≡ false
 
-modest-away : (l theirs : List Movement) → Every Modest l → lastReturn theirs ≡ false → awayAt l theirs ≡ false
-modest-away [] t h e = e
-modest-away (m ∷ l) t h e = h .0 .no-open
+no-opens : (l theirs : List Movement) → InRow l → awayAt l theirs ≡ false → Every NoOpen l
+no-opens [] t h e = tt
+no-opens (m ∷ l) t h e = (e, every-map (Ahead m) NoOpen (λ n k. k .no-open) l (h .0))
 
--- a TRAIN that grants nothing
-modest-train : (m : Movement) → Trains m → grantedIn m ≡ 0 → Modest m × (isOpener m ≡ false)
-modest-train (Open a) is e = absurd (false≢true is)
-modest-train Through is e = absurd (false≢true is)
-modest-train (Return a g) is e = absurd (false≢true is)
-modest-train (Train a g) is e = (record { no-open = refl; grants = e }, refl)
+no-open-away : (l theirs : List Movement) → Every NoOpen l → lastReturn theirs ≡ false → awayAt l theirs ≡ false
+no-open-away [] t h e = e
+no-open-away (m ∷ l) t h e = h .0
 
--- ahead of a TRAIN may stand TRAINs that carry nothing
-trains-ahead : (a g : ℕ) (l : List Movement) → Every Trains l → granted l ≡ 0 → Every (Ahead (Train a g)) l
-trains-ahead a g [] h e = tt
-trains-ahead a g (m ∷ l) h e =
-    let (modest, fast) = modest-train m (h .0) (omega arith) in
-    (record { return = refl; modest = modest; fast = λ k. fast }, trains-ahead a g l (h .1) (omega arith))
+-- ahead of an OPEN or THROUGH may stand what is no OPEN and grants nothing
+opener-ahead : (m : Movement) (l : List Movement) → Opens m → Every NoOpen l → granted l ≡ 0 → Every (Ahead m) l
+opener-ahead m [] op h e = tt
+opener-ahead m (n ∷ l) op h e =
+    (record { return = opener m op .return; no-open = h .0; grants = λ some. absurd (omega arith); fast = λ fast. absurd (clash op fast) },
+    opener-ahead m l op (h .1) (omega arith))
+
+-- a TRAIN is no OPEN and no opener
+record Hauled (m : Movement) : Type 0 where
+  no-open : isOpen m ≡ false
+  fast : isOpener m ≡ false
+
+hauled : (m : Movement) → Trains m → Hauled m
+hauled (Open a) is = absurd (false≢true is)
+hauled Through is = absurd (false≢true is)
+hauled (Return a g) is = absurd (false≢true is)
+hauled (Train a g) is = record { no-open = refl; fast = refl }
+
+-- ahead of a TRAIN may stand TRAINs; where one of them grants, it grants nothing
+trains-ahead : (a g : ℕ) (l : List Movement) → Every Trains l → (0 < granted l → g ≡ 0) → Every (Ahead (Train a g)) l
+trains-ahead a g [] h free = tt
+trains-ahead a g (m ∷ l) h free =
+    let k = hauled m (h .0) in
+    (record { return = refl; no-open = k .no-open; grants = λ some. record { train = refl; grants = free (omega arith) }; fast = λ fast. k .fast },
+    trains-ahead a g l (h .1) (λ some. free (omega arith)))
 
 -- the farthest, m, and those behind it
 row-snoc : (l : List Movement) (m : Movement) → InRow (l ++ m ∷ []) → InRow l × Every (λ n. Ahead n m) l
@@ -212,10 +238,15 @@ row-snoc (n ∷ l) m h =
     let (row, behind) = row-snoc l m (h .1) in
     ((ahead, row), (farthest, behind))
 
--- an OPEN or a grant is alone
-alone : (l : List Movement) (m : Movement) → InRow (l ++ m ∷ []) → (Modest m → ⊥) → l ≡ []
+-- an OPEN is alone
+alone : (l : List Movement) (m : Movement) → InRow (l ++ m ∷ []) → (isOpen m ≡ false → ⊥) → l ≡ []
 alone [] m h e = refl
-alone (n ∷ l) m h e = let (row, (first, others)) = row-snoc (n ∷ l) m h in absurd (e (first .modest))
+alone (n ∷ l) m h e = let (row, (first, others)) = row-snoc (n ∷ l) m h in absurd (e (first .no-open))
+
+-- TRAINs, of which there are none
+trains-none : (l : List Movement) → Every Bare l → trains l ≡ 0 → l ≡ []
+trains-none [] h e = refl
+trains-none (m ∷ l) h e = let one = ap oneIf (h .0 .train) in absurd (omega arith)
 
 -- no RETURN behind
 row-last : (l : List Movement) (m : Movement) → Every (λ n. Ahead n m) l → lastReturn l ≡ false
@@ -229,15 +260,16 @@ or-else g o e = by (ltb 0 g) refl
     by true some = refl
     by false none = omega (arith, ltb-false 0 g none)
 
--- a half of a desk with no guest that holds nothing: GUEST and HOLDS say nothing of it
-pub quiet : {d o : Desk} {mine theirs : List Movement} → d .guest ≡ 0 → d .clears .holds ≡ 0
-    → d .clears .owes ≡ o .clears .holds + trains theirs + granted mine → d .out ≡ (ltb 0 (o .guest) || awayAt mine theirs)
+-- a half of a desk with no guest that holds nothing and where nothing waits: GUEST, HOLDS and WAIT say nothing of it
+pub quiet : {d o : Desk} {mine theirs : List Movement} → d .guest ≡ 0 → d .clears .holds ≡ 0 → d .clears .waiting ≡ 0
+    → d .clears .owes ≡ o .clears .holds + o .clears .waiting + trains theirs + granted mine → d .out ≡ (ltb 0 (o .guest) || awayAt mine theirs)
     → InRow mine → Clear mine theirs → Half d o mine theirs
-quiet guest holds sum outs row clear = record {
+quiet guest holds waiting sum outs row clear = record {
   sum = sum;
   outs = outs;
   guests = λ some. absurd (omega arith);
   holding = λ some. absurd (omega arith);
+  waits = λ some. absurd (omega arith);
   row = row;
   clear = clear;
 }
@@ -253,13 +285,13 @@ kept-opener d o t out m mine theirs h p op is-out =
     let no-guest = or-left (ltb 0 (o .guest)) (awayAt mine theirs) none-out in
     let none-away = or-right (ltb 0 (o .guest)) (awayAt mine theirs) none-out in
     let k = opener m op in
-    let all-modest = modest-of mine theirs (h .own .row) none-away (omega (arith, h .own .sum, p .owes)) in
-    let ahead = every-map Modest (Ahead m) (λ n modest. record { return = k .return; modest = modest; fast = λ fast. absurd (clash op fast) }) mine all-modest in
+    let own-waits : d .clears .waiting ≡ 0 = zero-unless (d .clears .waiting) (λ some. omega (arith, h .own .waits some, p .owes)) in
+    let ahead = opener-ahead m mine op (no-opens mine theirs (h .own .row) none-away) (omega (arith, h .own .sum, p .owes)) in
     record {
-      own = quiet (p .guest) (p .holds) (omega (arith, h .own .sum, k .grants))
+      own = quiet (p .guest) (p .holds) own-waits (omega (arith, h .own .sum, k .grants))
           (is-out ∙ sym (ap (_|| isOpen m) no-guest))
           (ahead, h .own .row) (one-more (h .own .clear));
-      far = quiet (no-test (o .guest) no-guest) (omega (arith, h .own .sum, p .owes)) (omega (arith, h .far .sum, k .train))
+      far = quiet (no-test (o .guest) no-guest) (omega (arith, h .own .sum, p .owes)) (omega (arith, h .own .sum, p .owes)) (omega (arith, h .far .sum, k .train))
           (h .far .outs ∙ ap (ltb 0 (d .guest) ||_) (far-away m theirs mine (k .return)))
           (h .far .row) (openers (theirs-open (h .far .clear) none-away));
     }
@@ -281,8 +313,8 @@ kept-return d o t a g mine theirs h p =
     let owes = or-else g (d .clears .owes) (q .owes) in
     rw (q .none, q .none-far)
     (record {
-      own = quiet refl (p .holds) (omega (arith, alone .own .sum)) (alone .own .outs) (tt, tt) (no-far refl);
-      far = quiet (q .guest) (omega (arith, alone .own .sum)) (omega (arith, alone .far .sum, q .holds))
+      own = quiet refl (p .holds) (q .waiting) (omega (arith, alone .own .sum)) (alone .own .outs) (tt, tt) (no-far refl);
+      far = quiet (q .guest) (omega (arith, alone .own .sum)) (omega (arith, alone .own .sum)) (omega (arith, alone .far .sum, q .holds, q .waiting))
           (alone .far .outs ∙ rw (lt-ltb 0 (d .guest) (p .guest))) tt (openers tt);
     })
 
@@ -293,46 +325,79 @@ kept-train d o t a g mine theirs h p =
     let q = h .own .holding (p .holds) in
     let their-guest : o .guest ≡ 0 = zero-unless (o .guest) (λ some. omega (arith, h .far .guests some, h .far .sum, p .holds)) in
     let own-guest : d .guest ≡ 0 = zero-unless (d .guest) (λ some. omega (arith, h .own .guests some, p .holds)) in
-    let owes = or-else g (d .clears .owes) (q .owes) in
-    let none-granted : granted mine ≡ 0 = omega (arith, h .own .sum) in
+    let bare : 0 < d .clears .owes → g ≡ 0 = λ owes. zero-unless g (λ grants. omega (arith, p .free grants)) in
     record {
       own = record {
-        sum = omega (arith, h .own .sum);
-        outs = h .own .outs ∙ ap (ltb 0 (o .guest) ||_) (none-away mine (q .trains) none-granted (ap lastReturn (q .none-far)));
+        sum = now-owes (ltb 0 g) refl (h .own .sum);
+        outs = h .own .outs ∙ ap (ltb 0 (o .guest) ||_) (none-away mine (q .trains) (ap lastReturn (q .none-far)));
         guests = λ some. absurd (omega arith);
-        holding = λ some. record { owes = owes ∙ zero-unless g (λ grants. omega (arith, p .last grants)); none-far = q .none-far; trains = (refl, q .trains) };
-        row = (trains-ahead a g mine (q .trains) none-granted, h .own .row);
+        holding = λ some. record { far-holds = q .far-holds; waiting = q .waiting; none-far = q .none-far; trains = (refl, q .trains) };
+        waits = λ some. absurd (omega (arith, q .waiting));
+        row = (trains-ahead a g mine (q .trains) (λ some. bare (omega (arith, h .own .sum))), h .own .row);
         clear = no-far (q .none-far);
       };
-      far = quiet their-guest (omega (arith, h .own .sum)) (omega (arith, h .far .sum, p .holds))
-          (h .far .outs ∙ ap (ltb 0 (d .guest) ||_) (far-away (Train a g) theirs mine refl))
-          (h .far .row) (openers (rw (q .none-far) tt));
+      far = record {
+        sum = omega (arith, h .far .sum, p .holds);
+        outs = h .far .outs ∙ ap (ltb 0 (d .guest) ||_) (far-away (Train a g) theirs mine refl);
+        guests = λ some. absurd (omega arith);
+        holding = λ some. absurd (omega (arith, q .far-holds));
+        waits = λ some.
+            let w = h .far .waits some in
+            record { owes = w .owes; holds = w .holds; none = w .none; bare = (record { train = refl; grants = bare (omega (arith, h .own .sum)) }, w .bare) };
+        row = h .far .row;
+        clear = openers (rw (q .none-far) tt);
+      };
     }
   where
-    none-away : (l : List Movement) → Every Trains l → granted l ≡ 0 → lastReturn theirs ≡ false → awayAt l theirs ≡ false
-    none-away [] all e last = last
-    none-away (m ∷ l) all e last = modest-train m (all .0) (omega arith) .0 .no-open
+    none-away : (l : List Movement) → Every Trains l → lastReturn theirs ≡ false → awayAt l theirs ≡ false
+    none-away [] all last = last
+    none-away (m ∷ l) all last = hauled m (all .0) .no-open
+
+    -- a grant is owed beside nothing else
+    now-owes : (b : Bool) → ltb 0 g ≡ b → d .clears .owes ≡ o .clears .holds + o .clears .waiting + trains theirs + granted mine
+        → cond b g (d .clears .owes) ≡ o .clears .holds + o .clears .waiting + trains theirs + (g + granted mine)
+    now-owes true some sum = omega (arith, p .free (ltb-true 0 g some))
+    now-owes false none sum = omega (arith, ltb-false 0 g none)
 
 -- ---- receipts
+
+-- the station held nothing: what waited after the reply is then held, where it owes nothing more, and else goes on waiting
+record Released (c r : Clears) : Type 0 where
+  sum : r .holds + r .waiting ≡ c .waiting
+  holding : 0 < r .holds → (r .owes ≡ 0) × (r .waiting ≡ 0)
+  waits : 0 < r .waiting → (0 < r .owes) × (r .holds ≡ 0)
+
+released : (c : Clears) → c .holds ≡ 0 → Released c (releasedClears c)
+released c none = by (eqb (c .owes) 0) refl
+  where
+    by : (b : Bool) → eqb (c .owes) 0 ≡ b
+        → Released c (record { asked = c .asked; holds = cond b (ifAny (c .waiting) (c .holds)) (c .holds); owes = c .owes; waiting = cond b 0 (c .waiting) })
+    by true zero = let held = or-else (c .waiting) (c .holds) none in
+        record { sum = omega arith; holding = λ some. (eqb-true (c .owes) 0 zero, refl); waits = λ some. absurd (omega arith) }
+    by false owes = record { sum = omega arith; holding = λ some. absurd (omega arith); waits = λ some. (some-test (c .owes) owes, none) }
 
 -- the station's own OPEN or THROUGH
 pub kept-own : (d o : Desk) (t sent : ℕ) (m : Movement) (mine theirs : List Movement) → Halves d o (m ∷ mine) theirs
     → isOpener m ≡ true
-    → Halves (withOut (cond (isOpen m) false (d .out)) (received d t sent)) o mine theirs
+    → Halves (replied (grantedIn m) (withOut (cond (isOpen m) false (d .out)) (received d t sent))) o mine theirs
 kept-own d o t sent m mine theirs h op =
     let k = opener m op in
     let own-guest : d .guest ≡ 0 = zero-unless (d .guest) (λ some. cons-nil (h .own .guests some .none)) in
     let their-guest : o .guest ≡ 0 = zero-unless (o .guest) (λ some. cons-nil (h .far .guests some .none-far)) in
     let own-holds : d .clears .holds ≡ 0 = zero-unless (d .clears .holds) (λ some. let one = ap oneIf (h .own .holding some .trains .0) in omega (arith, k .train)) in
     let their-holds : o .clears .holds ≡ 0 = zero-unless (o .clears .holds) (λ some. cons-nil (h .far .holding some .none-far)) in
+    let own-waits : d .clears .waiting ≡ 0 = zero-unless (d .clears .waiting) (λ some. cons-nil (h .own .waits some .none)) in
+    let their-waits : o .clears .waiting ≡ 0 = zero-unless (o .clears .waiting) (λ some. let one = ap oneIf (h .far .waits some .bare .0 .train) in omega (arith, k .train)) in
+    let still = released (repliedClears (d .clears) (grantedIn m)) own-holds in
+    let none-waits : ifAny (grantedIn m) (d .clears .waiting) ≡ 0 = or-else (grantedIn m) (d .clears .waiting) own-waits ∙ k .grants in
     let all-open = theirs-open (h .far .clear) in
-    let all-modest = every-map (Ahead m) Modest (λ n k. k .modest) mine (h .own .row .0) in
-    let none-away = modest-away mine theirs all-modest (openers-last theirs all-open) in
+    let none-open = every-map (Ahead m) NoOpen (λ n k. k .no-open) mine (h .own .row .0) in
+    let none-away = no-open-away mine theirs none-open (openers-last theirs all-open) in
     record {
-      own = quiet own-guest own-holds (omega (arith, h .own .sum, k .grants))
+      own = quiet own-guest (omega (arith, still .sum)) (omega (arith, still .sum)) (omega (arith, h .own .sum, k .grants))
           (in-now (isOpen m) refl their-guest ∙ sym (ap₂ _||_ (zero-test (o .guest) their-guest) none-away))
           (h .own .row .1) (one-less (h .own .clear));
-      far = quiet their-guest their-holds (omega (arith, h .far .sum, k .train))
+      far = quiet their-guest their-holds their-waits (omega (arith, h .far .sum, k .train, still .sum))
           (h .far .outs ∙ ap (ltb 0 (d .guest) ||_) (sym (far-away m theirs mine (k .return))))
           (h .far .row) (openers all-open);
     }
@@ -360,76 +425,113 @@ module _ (d o : Desk) (m : Movement) (l : List Movement) (h : Halves d o [] (l +
   far-holds : d .clears .holds ≡ 0
   far-holds = zero-unless (d .clears .holds) (λ some. snoc-nil l m (h .own .holding some .none-far))
 
-  own-sum : d .clears .owes ≡ o .clears .holds + (trains l + trainOne m)
-  own-sum = omega (arith, h .own .sum, weigh-snoc trainOne l m)
+  their-waits : o .clears .waiting ≡ 0
+  their-waits = zero-unless (o .clears .waiting) (λ some. snoc-nil l m (h .far .waits some .none))
 
-  far-sum : o .clears .owes ≡ granted l + grantedIn m
+  own-sum : d .clears .owes ≡ o .clears .holds + (trains l + trainOne m)
+  own-sum = omega (arith, h .own .sum, weigh-snoc trainOne l m, their-waits)
+
+  far-sum : o .clears .owes ≡ d .clears .waiting + (granted l + grantedIn m)
   far-sum = omega (arith, h .far .sum, weigh-snoc grantedIn l m, far-holds)
 
   far-row : InRow l × Every (λ n. Ahead n m) l
   far-row = row-snoc l m (h .far .row)
 
+  -- where line clears wait, the one that comes is a TRAIN that grants nothing
+  waits-bare : 0 < d .clears .waiting → Every Bare l × Bare m
+  waits-bare some = every-before Bare l m (h .own .waits some .bare)
+
+  -- what then waits, and that TRAINs that grant nothing are behind it
+  now-waits : ifAny (grantedIn m) (d .clears .waiting) ≡ d .clears .waiting + grantedIn m
+  now-waits = by (ltb 0 (grantedIn m)) refl
+    where
+      by : (b : Bool) → ltb 0 (grantedIn m) ≡ b → cond b (grantedIn m) (d .clears .waiting) ≡ d .clears .waiting + grantedIn m
+      by true some =
+          let none : d .clears .waiting ≡ 0 = zero-unless (d .clears .waiting) (λ waits. omega (arith, waits-bare waits .1 .grants, ltb-true 0 (grantedIn m) some)) in
+          omega arith
+      by false none = omega (arith, ltb-false 0 (grantedIn m) none)
+
+  bare-behind : 0 < d .clears .waiting + grantedIn m → Every Bare l
+  bare-behind some = by (ltb 0 (grantedIn m)) refl
+    where
+      by : (b : Bool) → ltb 0 (grantedIn m) ≡ b → Every Bare l
+      by true grants = every-map (λ n. Ahead n m) Bare (λ n k. k .grants (ltb-true 0 (grantedIn m) grants)) l (far-row .1)
+      by false none = waits-bare (omega (arith, ltb-false 0 (grantedIn m) none)) .0
+
 -- an OPEN becomes a guest
 pub kept-guest : (d o : Desk) (t class a : ℕ) (l : List Movement) → Halves d o [] (l ++ Open a ∷ []) → 0 < class
-    → Halves (otherDesk d t class (Open a)) o [] l
+    → Halves (replied 0 (otherDesk d t class (Open a))) o [] l
 kept-guest d o t class a l h guest =
     let m = Open a in
-    let nil : l ≡ [] = alone l m (h .far .row) (λ modest. true≢false (modest .no-open)) in
+    let nil : l ≡ [] = alone l m (h .far .row) true≢false in
     let none : trains l ≡ 0 = ap trains nil in
-    let holds = far-holds d o m l h in
     let sum = own-sum d o m l h in
     let their-holds : o .clears .holds ≡ 0 = zero-unless (o .clears .holds) (λ some. false≢true (every-before Trains l m (h .far .holding some .trains) .1)) in
+    let none-waits : d .clears .waiting ≡ 0 = zero-unless (d .clears .waiting) (λ some. false≢true (waits-bare d o m l h some .1 .train)) in
+    let still = released (repliedClears (otherDesk d t class m .clears) 0) (far-holds d o m l h) in
     record {
       own = record {
-        sum = omega arith;
+        sum = omega (arith, their-waits d o m l h);
         outs = h .own .outs ∙ ap (ltb 0 (o .guest) ||_) (last-snoc l m ∙ sym (ap lastReturn nil));
-        guests = λ some. record { none = refl; none-far = nil; guest = their-guest d o m l h; holds = holds; owes = omega arith };
-        holding = λ some. absurd (omega arith);
+        guests = λ some. record { none = refl; none-far = nil; guest = their-guest d o m l h; holds = omega (arith, still .sum); owes = omega arith; waiting = omega (arith, still .sum) };
+        holding = λ some. absurd (omega (arith, still .sum));
+        waits = λ some. absurd (omega (arith, still .sum));
         row = tt;
         clear = openers tt;
       };
-      far = quiet (their-guest d o m l h) their-holds (omega (arith, far-sum d o m l h))
+      far = quiet (their-guest d o m l h) their-holds (their-waits d o m l h) (omega (arith, far-sum d o m l h, still .sum))
           (h .far .outs ∙ rw nil (or-true (ltb 0 (d .guest)) ∙ rw (lt-ltb 0 class guest)))
           (far-row d o m l h .0) (no-far refl);
     }
 
--- any other goes on, or comes with a grant: the desk e that it leaves
+-- any other goes on, or comes with a grant: the desk e that it leaves, before the reply is read
 record Comes (d : Desk) (m : Movement) (e : Desk) : Type 0 where
   out : e .out ≡ cond (isReturn m) false (d .out)
-  holds : e .clears .holds ≡ grantedIn m
+  holds : e .clears .holds ≡ d .clears .holds
   owes : e .clears .owes ≡ d .clears .owes - trainOne m
+  waiting : e .clears .waiting ≡ d .clears .waiting
   guest : e .guest ≡ d .guest
 
-comes : (d : Desk) (t class : ℕ) (m : Movement) → isOpen m ≡ false → d .clears .holds ≡ 0 → Comes d m (otherDesk d t class m)
-comes d t class (Open a) n none = absurd (true≢false n)
-comes d t class Through n none = record { out = refl; holds = none; owes = omega arith; guest = refl }
-comes d t class (Return a g) n none = record { out = refl; holds = refl; owes = omega arith; guest = refl }
-comes d t class (Train a g) n none = record { out = refl; holds = refl; owes = refl; guest = refl }
+comes : (d : Desk) (t class : ℕ) (m : Movement) → isOpen m ≡ false → Comes d m (otherDesk d t class m)
+comes d t class (Open a) n = absurd (true≢false n)
+comes d t class Through n = record { out = refl; holds = refl; owes = omega arith; waiting = refl; guest = refl }
+comes d t class (Return a g) n = record { out = refl; holds = refl; owes = omega arith; waiting = refl; guest = refl }
+comes d t class (Train a g) n = record { out = refl; holds = refl; owes = refl; waiting = refl; guest = refl }
 
 pub kept-far : (d o : Desk) (t class : ℕ) (m : Movement) (l : List Movement) → Halves d o [] (l ++ m ∷ []) → isOpen m ≡ false
-    → Halves (otherDesk d t class m) o [] l
+    → Halves (replied (grantedIn m) (otherDesk d t class m)) o [] l
 kept-far d o t class m l h n =
     let e = otherDesk d t class m in
-    let k = comes d t class m n (far-holds d o m l h) in
+    let k = comes d t class m n in
     let last = row-last l m (far-row d o m l h .1) in
     let own = own-sum d o m l h in
     let far = far-sum d o m l h in
+    let now = now-waits d o m l h in
+    let after = released (repliedClears (e .clears) (grantedIn m)) (k .holds ∙ far-holds d o m l h) in
+    let waited : ifAny (grantedIn m) (e .clears .waiting) ≡ d .clears .waiting + grantedIn m = ap (ifAny (grantedIn m)) (k .waiting) ∙ now in
     record {
       own = record {
-        sum = omega arith;
+        sum = omega (arith, their-waits d o m l h);
         outs = k .out ∙ out-now (isReturn m) refl ∙ sym (ap₂ _||_ (zero-test (o .guest) (their-guest d o m l h)) last);
         guests = λ some. absurd (omega (arith, far-guest d o m l h));
         holding = λ some.
-            let nil : l ≡ [] = alone l m (h .far .row) (λ modest. omega (arith, modest .grants)) in
-            record { owes = paid nil (omega arith) (k .owes); none-far = nil; trains = tt };
+            let paid = after .holding some in
+            let nil = trains-none l (bare-behind d o m l h (omega (arith, after .sum))) (omega arith) in
+            record { far-holds = omega arith; waiting = paid .1; none-far = nil; trains = tt };
+        waits = λ some.
+            let owing = after .waits some in
+            record { owes = owing .0; holds = owing .1; none = refl; bare = bare-behind d o m l h (omega (arith, after .sum)) };
         row = tt;
         clear = openers tt;
       };
       far = record {
-        sum = omega arith;
+        sum = omega (arith, after .sum);
         outs = h .far .outs ∙ ap₂ _||_ (ap (ltb 0) (sym (k .guest))) (away-snoc l m n);
         guests = λ some. absurd (omega (arith, their-guest d o m l h));
-        holding = λ some. let q = h .far .holding some in record { owes = q .owes; none-far = refl; trains = every-before Trains l m (q .trains) .0 };
+        holding = λ some.
+            let q = h .far .holding some in
+            record { far-holds = zero-unless _ (λ (held : 0 < releasedClears (repliedClears (e .clears) (grantedIn m)) .holds). omega (arith, after .holding held)); waiting = q .waiting; none-far = refl; trains = every-before Trains l m (q .trains) .0 };
+        waits = λ some. absurd (omega (arith, their-waits d o m l h));
         row = far-row d o m l h .0;
         clear = no-far refl;
       };
@@ -438,9 +540,3 @@ kept-far d o t class m l h n =
     out-now : (b : Bool) → isReturn m ≡ b → cond b false (d .out) ≡ false
     out-now true p = refl
     out-now false p = h .own .outs ∙ ap₂ _||_ (zero-test (o .guest) (their-guest d o m l h)) (last-snoc l m ∙ p)
-
-    paid : l ≡ [] → 0 < grantedIn m → {owes : ℕ} → owes ≡ d .clears .owes - trainOne m → owes ≡ 0
-    paid nil some is =
-        let none : trains l ≡ 0 = ap trains nil in
-        let their-holds : o .clears .holds ≡ 0 = zero-unless (o .clears .holds) (λ held. omega (arith, h .far .holding held, far-sum d o m l h)) in
-        omega (arith, own-sum d o m l h)

@@ -71,7 +71,7 @@ kept-emptied : Between A freshDesk freshDesk []
 kept-emptied = record { own = half; far = half }
   where
     half : Half freshDesk freshDesk [] []
-    half = quiet refl refl refl refl tt (openers tt)
+    half = quiet refl refl refl refl refl tt (openers tt)
 
 kept-change : (s : Section) (e : Decoded) (r : Stepped) → Good s → Change s e r → Between A (r .section .a) (r .section .b) (vehiclesOf (r .section))
 kept-change s e r g (refusal k why) = g .kept

@@ -65,11 +65,11 @@ plain = Accepted 0 0 NoSpeed
 abbrev pub vehicle : Movement → ℕ → ℕ → ℕ → Bool → ℕ → Vehicle
 vehicle movement sender form heading met class = record { movement = movement; sender = sender; form = form; heading = heading; met = met; class = class }
 
--- ---- a desk, in document 01's order, and with one figure put in the place of another
+-- ---- a desk, in document 01's order, with nothing waiting, and with one figure put in the place of another
 
 abbrev pub figures : ℕ → ℕ → ℕ → Interval → Bool → ℕ → ℕ → ℕ → ℕ → Desk
 figures clock last sent interval out guest asked holds owes =
-    withFigures clock last sent interval out guest (record { asked = asked; holds = holds; owes = owes }) freshDesk
+    withFigures clock last sent interval out guest (record { asked = asked; holds = holds; owes = owes; waiting = 0 }) freshDesk
 
 abbrev pub withClock : ℕ → Desk → Desk
 withClock n d = withEntered n (d .last) (d .sent) (d .interval) d
@@ -81,13 +81,16 @@ abbrev pub withSent : ℕ → Desk → Desk
 withSent n d = withEntered (d .clock) (d .last) n (d .interval) d
 
 abbrev pub withAsked : ℕ → Desk → Desk
-withAsked n d = withClears (record { asked = n; holds = d .clears .holds; owes = d .clears .owes }) d
+withAsked n d = withClears (record { asked = n; holds = d .clears .holds; owes = d .clears .owes; waiting = d .clears .waiting }) d
 
 abbrev pub withHolds : ℕ → Desk → Desk
-withHolds n d = withClears (record { asked = d .clears .asked; holds = n; owes = d .clears .owes }) d
+withHolds n d = withClears (record { asked = d .clears .asked; holds = n; owes = d .clears .owes; waiting = d .clears .waiting }) d
 
 abbrev pub withOwes : ℕ → Desk → Desk
-withOwes n d = withClears (record { asked = d .clears .asked; holds = d .clears .holds; owes = n }) d
+withOwes n d = withClears (record { asked = d .clears .asked; holds = d .clears .holds; owes = n; waiting = d .clears .waiting }) d
+
+abbrev pub withWaiting : ℕ → Desk → Desk
+withWaiting n d = withClears (record { asked = d .clears .asked; holds = d .clears .holds; owes = d .clears .owes; waiting = n }) d
 
 -- ---- so many refused for A, for B, and of no station; and a section in force: these refused, these vehicles from A to B, these desks
 

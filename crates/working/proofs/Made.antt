@@ -2,14 +2,14 @@
 -- Each clause is a law of the vehicles present; there is room for a twenty-fifth vehicle nowhere, since each station has sent at most twelve.
 -- Assumes nothing.
 use Prim.Native.Nat.{_+_, _-_, _<_, _≤_, suc, zero, ℕ}
-use Rattle.working.proofs.Clauses.{DeskMade, Numbered, Shape, desk-of, section-made, section-tests}
+use Rattle.working.proofs.Clauses.{DeskMade, MovementMade, Numbered, Shape, desk-of, section-made, section-tests}
 use Rattle.working.proofs.Every.{Every, every-all, every-map}
 use Rattle.working.proofs.Vehicles.{From, NotFrom, differ-insert, eqb-sym, every-end, every-insert, insert-length, not-other, not-own, ordered-far, ordered-own, sum-insert}
 use Rattle.working.proofs.Plans.{Departs}
-use Rattle.working.proofs.Receipts.{Arrives, Receipt, arrives-far, arrives-own, of-other, of-own, receipt}
+use Rattle.working.proofs.Receipts.{Arrives, Receipt, arrives-far, arrives-own, arrives-replied, of-other, of-own, receipt}
 use Rattle.working.proofs.Tests.{and, both, clash, or-second}
 use Rattle.working.specs.Acts.{Act}
-use Rattle.working.specs.Effects.{Departing, arriveDesk, otherDesk, ownDesk}
+use Rattle.working.specs.Effects.{Departing, arriveDesk, grantedIn, replied}
 use Rattle.working.specs.Reasons.{mayEnter}
 use Rattle.working.specs.Sections.{deskOf, insertAt, vehiclesOf, numberAt, otherAt, padTo, unused, withDesk, withVehicles}
 use Rattle.working.specs.WellMade.{all, countFrom, differ, isBlank, isFrom, oneIf, ordered, same, wellMade}
@@ -146,11 +146,15 @@ pub well-arrive : (x : Station) (d o : Desk) (time : ℕ) (v : Vehicle) (l : Lis
     → Well x (arriveDesk x d time v) o l
 well-arrive x d o time v l w may = by (receipt x d time v may)
   where
+    moves : MovementMade (v .movement) (v .class)
+    moves = every-end Shape x v l (w .shape) .1 .moves
+
+    brings : {e : Desk} {n : ℕ} → Arrives d e n → Arrives d (replied (grantedIn (v .movement)) e) n
+    brings {e} {n} = arrives-replied d e n (v .movement) (v .class) moves
+
     by : {e : Desk} → Receipt x d time v e → Well x e o l
-    by (of-own is opener) = well-own x d o (ownDesk d time (v .movement)) v l w is (arrives-own d time (v .movement) opener (w .own .bounds))
-    by (of-other is) =
-        let moves = every-end Shape x v l (w .shape) .1 .moves in
-        well-far x d o (otherDesk d time (v .class) (v .movement)) v l w is (arrives-far d time (v .class) (v .movement) moves (w .own .bounds))
+    by (of-own is opener) = well-own x d o _ v l w is (brings (arrives-own d time (v .movement) opener (w .own .bounds)))
+    by (of-other is) = well-far x d o _ v l w is (brings (arrives-far d time (v .class) (v .movement) moves (w .own .bounds)))
 
 -- ---- the section
 

@@ -38,12 +38,12 @@ return-passes d granted n = omega (arith, ltb-false, some-test)
 
 pub record TrainPasses (d : Desk) (granted : ℕ) : Type 0 where
   pub holds : 0 < d .clears .holds
-  pub last : 0 < granted → d .clears .holds ≤ 1
+  pub free : 0 < granted → d .clears .owes ≡ 0
 
 pub train-passes : (d : Desk) (granted : ℕ) → NoneHolds (trainTests d granted) → TrainPasses d granted
 train-passes d granted (holds, (grant, end)) =
-    let leaves-some = or-right (ltb (d .clears .asked) granted) (ltb 0 granted && ltb 1 (d .clears .holds)) grant in
-    record { holds = some-test _ holds; last = λ some. ltb-false 1 _ (rw (lt-ltb 0 granted some) at leaves-some) }
+    let while-owing = or-right (ltb (d .clears .asked) granted) (ltb 0 granted && ltb 0 (d .clears .owes)) grant in
+    record { holds = some-test _ holds; free = λ some. no-test _ (rw (lt-ltb 0 granted some) at while-owing) }
 
 pub record LastPasses (d : Desk) : Type 0 where
   pub room : d .sent < 12

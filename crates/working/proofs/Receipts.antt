@@ -4,7 +4,7 @@ use Prim.Native.Nat.{_-_, _≤_, ℕ}
 use Rattle.working.proofs.Clauses.{Bounds, MovementMade}
 use Rattle.working.proofs.Invariant.{Halves, kept-far, kept-guest, kept-own}
 use Rattle.working.proofs.Tests.{both, either-most}
-use Rattle.working.specs.Effects.{arriveDesk, otherDesk, ownDesk}
+use Rattle.working.specs.Effects.{arriveDesk, grantedIn, ifAny, otherDesk, ownDesk, replied}
 use Rattle.working.specs.Reasons.{mayEnter}
 use Rattle.working.specs.Sections.{numberAt, withFigures}
 use Rattle.working.specs.WellMade.{isFrom, isOpener, notLater}
@@ -53,17 +53,39 @@ arrives-far d t class (Train a g) made b =
     let enquired : d .clears .asked ≤ 8 = omega arith in
     arrived d t 0 _ _ _ (omega (arith, either-most (ltb 0 a) (made .asked) enquired))
 
+-- the reply that the vehicle brings, and what waits
+granted-most : (m : Movement) (class : ℕ) → MovementMade m class → grantedIn m ≤ 8
+granted-most (Open a) class made = made .granted
+granted-most Through class made = made .granted
+granted-most (Return a g) class made = made .granted
+granted-most (Train a g) class made = made .granted
+
+pub arrives-replied : (d e : Desk) (n : ℕ) (m : Movement) (class : ℕ) → MovementMade m class → Arrives d e n → Arrives d (replied (grantedIn m) e) n
+arrives-replied d e n m class made a =
+    let b = a .bounds in
+    let c = e .clears in
+    let holds : c .holds ≤ 8 = omega arith in
+    let waiting : ifAny (grantedIn m) (c .waiting) ≤ 8 = either-most (ltb 0 (grantedIn m)) (granted-most m class made) (omega arith) in
+    let held = either-most (ltb 0 (ifAny (grantedIn m) (c .waiting))) waiting holds in
+    let none : 0 ≤ 8 = omega arith in
+    record {
+      last = a .last;
+      sent = a .sent;
+      bounds = omega (arith, either-most (eqb (c .owes) 0) held holds, either-most (eqb (c .owes) 0) none waiting);
+      interval = a .interval;
+    }
+
 -- ---- the invariant
 
 pub keeps-own : (d o : Desk) (t : ℕ) (m : Movement) (mine theirs : List Movement) → isOpener m ≡ true → Halves d o (m ∷ mine) theirs
-    → Halves (ownDesk d t m) o mine theirs
+    → Halves (replied (grantedIn m) (ownDesk d t m)) o mine theirs
 keeps-own d o t (Open a) mine theirs is h = kept-own d o t (d .sent - 1) (Open a) mine theirs h is
 keeps-own d o t Through mine theirs is h = kept-own d o t (d .sent - 1) Through mine theirs h is
 keeps-own d o t (Return a g) mine theirs is h = absurd (false≢true is)
 keeps-own d o t (Train a g) mine theirs is h = absurd (false≢true is)
 
 pub keeps-far : (d o : Desk) (t class : ℕ) (m : Movement) (l : List Movement) → MovementMade m class → Halves d o [] (l ++ m ∷ [])
-    → Halves (otherDesk d t class m) o [] l
+    → Halves (replied (grantedIn m) (otherDesk d t class m)) o [] l
 keeps-far d o t class (Open a) l made h = kept-guest d o t class a l h (made .least)
 keeps-far d o t class Through l made h = kept-far d o t class Through l h refl
 keeps-far d o t class (Return a g) l made h = kept-far d o t class (Return a g) l h refl
@@ -73,8 +95,8 @@ keeps-far d o t class (Train a g) l made h = kept-far d o t class (Train a g) l 
 
 -- a vehicle v that enters at x is x's own OPEN or THROUGH, or the other's
 pub data Receipt (x : Station) (d : Desk) (t : ℕ) (v : Vehicle) : Desk → Type 0 where
-  of-own : isFrom (numberAt x) v ≡ true → isOpener (v .movement) ≡ true → Receipt x d t v (ownDesk d t (v .movement))
-  of-other : isFrom (numberAt x) v ≡ false → Receipt x d t v (otherDesk d t (v .class) (v .movement))
+  of-own : isFrom (numberAt x) v ≡ true → isOpener (v .movement) ≡ true → Receipt x d t v (replied (grantedIn (v .movement)) (ownDesk d t (v .movement)))
+  of-other : isFrom (numberAt x) v ≡ false → Receipt x d t v (replied (grantedIn (v .movement)) (otherDesk d t (v .class) (v .movement)))
 
 pub receipt : (x : Station) (d : Desk) (t : ℕ) (v : Vehicle) → mayEnter x v ≡ true → Receipt x d t v (arriveDesk x d t v)
 receipt x d t v = by (isFrom (numberAt x) v) refl
@@ -83,6 +105,6 @@ receipt x d t v = by (isFrom (numberAt x) v) refl
     back = not (v .met) || eqb (v .heading) (numberAt x)
 
     by : (b : Bool) → isFrom (numberAt x) v ≡ b → cond b (isOpener (v .movement) && back) (eqb (v .heading) (numberAt x)) ≡ true
-        → Receipt x d t v (cond b (ownDesk d t (v .movement)) (otherDesk d t (v .class) (v .movement)))
+        → Receipt x d t v (replied (grantedIn (v .movement)) (cond b (ownDesk d t (v .movement)) (otherDesk d t (v .class) (v .movement))))
     by true is may = of-own is (both (isOpener (v .movement)) back may .0)
     by false is may = of-other is

@@ -11,9 +11,9 @@ use Rattle.working.proofs.Made.{vehicles-after, vehicles-with}
 use Rattle.working.proofs.Plans.{Departs}
 use Rattle.working.proofs.Sides.{moves-weight, movesOf}
 use Rattle.working.specs.Acts.{Act}
-use Rattle.working.specs.Demand3.{grantedIn, ofStation}
+use Rattle.working.specs.Demand3.{ofStation}
 use Rattle.working.specs.Departures.{Departure, Kind, departureBy, departureOf, departureWith, ifOf, kindIn, kindOf, laterOr, leftOnTrain, leftSlowly}
-use Rattle.working.specs.Effects.{Departing, arriveDesk}
+use Rattle.working.specs.Effects.{Departing, arriveDesk, grantedIn}
 use Rattle.working.specs.Events.{At, Bad, Begin, Decoded, Meet, Resume, Says, decode}
 use Rattle.working.specs.Runs.{Done}
 use Rattle.working.specs.Sections.{deskOf, insertAt, vehiclesOf, numberAt}

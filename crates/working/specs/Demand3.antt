@@ -3,6 +3,7 @@ use Prim.Native.Nat.{_+_, _<_, ℕ}
 use Rattle.working.specs.Acts as acts
 use Rattle.working.specs.Acts.{Act}
 use Rattle.working.specs.Departures.{Departure, Kind, departureOf, kindIn, kindOf, leftOnTrain, leftSlowly}
+use Rattle.working.specs.Effects.{grantedIn}
 use Rattle.working.specs.Events.{At, Says, decode}
 use Rattle.working.specs.Runs.{Done, Run, results, resultsOf}
 use Rattle.working.specs.Sections.{deskOf, fresh, vehiclesOf, numberAt, otherAt, unused}
@@ -10,8 +11,6 @@ use Rattle.working.specs.Turns.{isAccepted}
 use Rattle.working.specs.WellMade.{isFrom, oneIf, sumOver}
 use Rattle.working.specs.declared.Answer.the-variants.{Accepted, Refused}
 use Rattle.working.specs.declared.Answer.{Answer}
-use Rattle.working.specs.declared.Movement.the-variants.{Open, Return, Through, Train}
-use Rattle.working.specs.declared.Movement.{Movement}
 use Rattle.working.specs.declared.Section.{Section}
 use Rattle.working.specs.declared.Station.the-variants.{A, B}
 use Rattle.working.specs.declared.Station.{Station}
@@ -35,12 +34,6 @@ ofStation x f v = cond (isFrom (numberAt x) v) (f v) 0
 -- "A station's trains are its vehicles that left on TRAIN."
 abbrev pub trainsOf : List Done → Section → Station → ℕ
 trainsOf l s x = sumOver (ofStation x (λ v. oneIf (leftOnTrain (departureOf l v)))) (vehiclesOf s)
-
-abbrev pub grantedIn : Movement → ℕ
-grantedIn (Open asked) = 0
-grantedIn Through = 0
-grantedIn (Return asked granted) = granted
-grantedIn (Train asked granted) = granted
 
 -- "Line clears on the way to a station are the granted carried by the other's vehicles in the section."
 abbrev pub onTheWayTo : Section → Station → ℕ
@@ -80,8 +73,9 @@ pub record Demand3 {l : List Done} {s : Section} (run : Run fresh l s) : Type 0 
   -- any two vehicles heading towards one another both left on T/B 602 at 15 km/h or less
   pub opposed : (i j : ℕ) → i < j → j < s .len → vehicleAt s i .heading ≡ numberAt B → vehicleAt s j .heading ≡ numberAt A
       → (leftSlowly (departureOf l (vehicleAt s i)) ≡ true) × (leftSlowly (departureOf l (vehicleAt s j)) ≡ true)
-  -- line clears owed by each station = those the other holds + the other's trains in the section + line clears on the way to the other
-  pub owed : s .force ≡ true → (x : Station) → deskOf s x .clears .owes ≡ deskOf s (otherAt x) .clears .holds + trainsOf l s (otherAt x) + onTheWayTo s (otherAt x)
+  -- line clears owed by each station = those the other holds + those waiting at the other + the other's trains in the section + line clears on the way to the other
+  pub owed : s .force ≡ true → (x : Station)
+      → deskOf s x .clears .owes ≡ deskOf s (otherAt x) .clears .holds + deskOf s (otherAt x) .clears .waiting + trainsOf l s (otherAt x) + onTheWayTo s (otherAt x)
   -- two neighbours change places: every entry has the same answer, and the section is the same in every figure
   pub swap : (before : List Done) (d e : Done) (after : List Done) (x y : Station) (first second : Act) → l ≡ before ++ d ∷ e ∷ after
       → AcceptedAt d x first → AcceptedAt e y second → (x ≡ y → ⊥) → (ReceivesIt first x (d .answer) second → ⊥)

@@ -91,14 +91,14 @@ throughDesk d time = departed d time
 
 -- "RETURN: guest and asked at S cleared; .. granted above 0 becomes S's owes"
 abbrev pub returnClears : Clears → ℕ → Clears
-returnClears c granted = record { asked = 0; holds = c .holds; owes = ifAny granted (c .owes) }
+returnClears c granted = record { asked = 0; holds = c .holds; owes = ifAny granted (c .owes); waiting = c .waiting }
 
 abbrev pub returnDesk : Desk → ℕ → ℕ → Desk
 returnDesk d time granted = withClears (returnClears (d .clears) granted) (withGuest 0 (departed d time))
 
 -- "TRAIN: holds falls by 1; .. granted above 0 becomes owes and clears S's asked"
 abbrev pub trainClears : Clears → ℕ → Clears
-trainClears c granted = record { asked = cond (ltb 0 granted) 0 (c .asked); holds = c .holds - 1; owes = ifAny granted (c .owes) }
+trainClears c granted = record { asked = cond (ltb 0 granted) 0 (c .asked); holds = c .holds - 1; owes = ifAny granted (c .owes); waiting = c .waiting }
 
 abbrev pub trainDesk : Desk → ℕ → ℕ → Desk
 trainDesk d time granted = withClears (trainClears (d .clears) granted) (departed d time)
@@ -118,21 +118,49 @@ ownDesk d time (Train asked granted) = d
 
 -- an OPEN "makes .. asked"
 abbrev pub openedClears : Clears → ℕ → Clears
-openedClears c asked = record { asked = asked; holds = c .holds; owes = c .owes }
+openedClears c asked = record { asked = asked; holds = c .holds; owes = c .owes; waiting = c .waiting }
 
--- "RETURN and TRAIN set holds to granted, and asked if above 0"
-abbrev pub broughtClears : Clears → ℕ → ℕ → ℕ → Clears
-broughtClears c asked granted owes = record { asked = ifAny asked (c .asked); holds = granted; owes = owes }
+-- "RETURN and TRAIN set .. asked if above 0"
+abbrev pub broughtClears : Clears → ℕ → ℕ → Clears
+broughtClears c asked owes = record { asked = ifAny asked (c .asked); holds = c .holds; owes = owes; waiting = c .waiting }
 
 -- "One from O: sent becomes 0, and OPEN makes guest and asked; RETURN clears out; TRAIN lowers owes by 1, not below 0"
 abbrev pub otherDesk : Desk → ℕ → ℕ → Movement → Desk
 otherDesk d time class (Open asked) = withClears (openedClears (d .clears) asked) (withGuest class (received d time 0))
 otherDesk d time class Through = received d time 0
-otherDesk d time class (Return asked granted) = withClears (broughtClears (d .clears) asked granted (d .clears .owes)) (withOut false (received d time 0))
-otherDesk d time class (Train asked granted) = withClears (broughtClears (d .clears) asked granted (d .clears .owes - 1)) (received d time 0)
+otherDesk d time class (Return asked granted) = withClears (broughtClears (d .clears) asked (d .clears .owes)) (withOut false (received d time 0))
+otherDesk d time class (Train asked granted) = withClears (broughtClears (d .clears) asked (d .clears .owes - 1)) (received d time 0)
+
+-- "every desk figure it alters is S's": whose it is
+abbrev pub takenDesk : Station → Desk → ℕ → Vehicle → Desk
+takenDesk x d time v = cond (eqb (v .sender) (numberAt x)) (ownDesk d time (v .movement)) (otherDesk d time (v .class) (v .movement))
+
+-- the line clears that a vehicle carries
+abbrev pub grantedIn : Movement → ℕ
+grantedIn (Open asked) = 0
+grantedIn Through = 0
+grantedIn (Return asked granted) = granted
+grantedIn (Train asked granted) = granted
+
+-- T-02: "At a receipt a grant above 0 takes the place of the clears the receiving station keeps waiting"
+abbrev pub repliedClears : Clears → ℕ → Clears
+repliedClears c granted = record { asked = c .asked; holds = c .holds; owes = c .owes; waiting = ifAny granted (c .waiting) }
+
+-- T-02: "where its own owes is 0 after it, holds is set to those waiting, if any, and none is left waiting. Otherwise no receipt alters holds."
+abbrev pub releasedClears : Clears → Clears
+releasedClears c = record {
+  asked = c .asked;
+  holds = cond (eqb (c .owes) 0) (ifAny (c .waiting) (c .holds)) (c .holds);
+  owes = c .owes;
+  waiting = cond (eqb (c .owes) 0) 0 (c .waiting);
+}
+
+-- any receipt, in this order: its own effect, the reply that the vehicle brings, and what waits
+abbrev pub replied : ℕ → Desk → Desk
+replied granted d = withClears (releasedClears (repliedClears (d .clears) granted)) d
 
 abbrev pub arriveDesk : Station → Desk → ℕ → Vehicle → Desk
-arriveDesk x d time v = cond (eqb (v .sender) (numberAt x)) (ownDesk d time (v .movement)) (otherDesk d time (v .class) (v .movement))
+arriveDesk x d time v = replied (grantedIn (v .movement)) (takenDesk x d time v)
 
 -- ---- each kind
 

@@ -58,11 +58,11 @@ returnTests d granted =
     ∷ (ltb (d .clears .asked) granted, GrantNotAllowed)  -- 16
     ∷ []
 
--- 16: "granted above asked at S, or on a TRAIN that leaves holds above 0"
+-- 16: "granted above asked at S", and T-02: "On a TRAIN, a grant while the station owes is 16."
 abbrev pub trainTests : Desk → ℕ → List Test
 trainTests d granted =
     (eqb (d .clears .holds) 0, NoLineClear)  -- 15
-    ∷ (ltb (d .clears .asked) granted || (ltb 0 granted && ltb 1 (d .clears .holds)), GrantNotAllowed)  -- 16
+    ∷ (ltb (d .clears .asked) granted || (ltb 0 granted && ltb 0 (d .clears .owes)), GrantNotAllowed)  -- 16
     ∷ []
 
 -- every departure is put to these last

@@ -125,7 +125,7 @@ countRefusal whose s = record { vehicles = s .vehicles; len = s .len; force = s 
 -- ---- the fresh section
 
 abbrev pub noClears : Clears
-noClears = record { asked = 0; holds = 0; owes = 0 }
+noClears = record { asked = 0; holds = 0; owes = 0; waiting = 0 }
 
 abbrev pub freshDesk : Desk
 freshDesk = record { clock = 0; last = 0; sent = 0; interval = Stopped; out = false; guest = 0; clears = noClears }

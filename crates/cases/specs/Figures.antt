@@ -18,7 +18,7 @@ use mathlib.Core.List.{List, [], _∷_}
 
 -- the bytes of a section, and of the longest head of a case: a section's and two more
 abbrev pub sectionLength : ℕ
-sectionLength = 256
+sectionLength = 258
 
 abbrev pub longestHead : ℕ
 longestHead = sectionLength + 2
@@ -57,11 +57,11 @@ placesAt (suc count) figures at = vehicleAt figures at ∷ placesAt count figure
 abbrev pub intervalOf : ℕ → ℕ → Interval
 intervalOf running minute = cond (eqb running 1) (Since minute) Stopped
 
--- "asked 1, holds 1, owes 1"
+-- "asked 1, holds 1, owes 1, waiting 1"
 abbrev pub clearsAt : List ℕ → ℕ → Clears
-clearsAt figures at = record { asked = byteAt figures at; holds = byteAt figures (at + 1); owes = byteAt figures (at + 2) }
+clearsAt figures at = record { asked = byteAt figures at; holds = byteAt figures (at + 1); owes = byteAt figures (at + 2); waiting = byteAt figures (at + 3) }
 
--- the thirteen bytes of a desk; a figure that they do not give is that of d
+-- the fourteen bytes of a desk; a figure that they do not give is that of d
 abbrev pub deskAt : List ℕ → ℕ → Desk → Desk
 deskAt figures at d =
     withFigures (numberAt figures at) (numberAt figures (at + 2)) (byteAt figures (at + 4))
@@ -80,7 +80,7 @@ sectionIn figures = record {
   force = eqb (byteAt figures 217) 1;
   refused = countsAt figures 218;
   a = deskAt figures 230 freshDesk;
-  b = deskAt figures 243 freshDesk;
+  b = deskAt figures 244 freshDesk;
 }
 
 -- "an entry of 12 bytes (map 1, kind 1, station 1, time 2, view 1, class 1, asked 1, granted 1, sender 1, number 2)"

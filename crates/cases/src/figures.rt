@@ -25,7 +25,7 @@ const REFUSED: usize = 218;
 
 const DESK_A: usize = 230;
 
-const DESK_B: usize = 243;
+const DESK_B: usize = 244;
 
 // What a vehicle left on: kind 0, the unused place, is the OPEN that asks for nothing.
 fn movement_in(kind: u8, asked: u8, granted: u8) -> Movement
@@ -81,21 +81,22 @@ fn interval_in(running: u8, minute: u16) -> Interval
     }
 }
 
-// The three bytes of the line clears at a desk.
+// The four bytes of the line clears at a desk.
 fn clears_in(figures: &Head, at: usize) -> Clears
-    requires { ⌜ at + 3 ≤ longestHead ⌝ }
+    requires { ⌜ at + 4 ≤ longestHead ⌝ }
     ensures { λ r. ⌜ r ≡ clearsAt (now (figures .entry)) at ⌝ }
 {
     Clears {
         asked: figures[at],
         holds: figures[at + 1],
         owes: figures[at + 2],
+        waiting: figures[at + 3],
     }
 }
 
-// The thirteen bytes of a desk; a figure that they do not give is that of `other`.
+// The fourteen bytes of a desk; a figure that they do not give is that of `other`.
 fn desk_in(figures: &Head, at: usize, other: Desk) -> Desk
-    requires { ⌜ at + 13 ≤ longestHead ⌝ }
+    requires { ⌜ at + 14 ≤ longestHead ⌝ }
     ensures { λ r. ⌜ r ≡ deskAt (now (figures .entry)) at other ⌝ }
 {
     Desk {
@@ -209,7 +210,7 @@ fn interval_figures(interval: Interval) -> [u8; 3] {
     }
 }
 
-fn desk_figures(desk: Desk) -> [u8; 13] {
+fn desk_figures(desk: Desk) -> [u8; 14] {
     let interval = desk.interval;
     let running = interval_figures(interval);
     let clears = desk.clears;
@@ -227,6 +228,7 @@ fn desk_figures(desk: Desk) -> [u8; 13] {
         clears.asked,
         clears.holds,
         clears.owes,
+        clears.waiting,
     ]
 }
 

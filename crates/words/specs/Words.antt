@@ -162,7 +162,7 @@ deskRead t = record {
   interval = intervalIn (getD t 3 0);
   out = eqb (getD t 4 0) 1;
   guest = getD t 5 0 % 256;
-  clears = record { asked = getD t 6 0 % 256; holds = getD t 7 0 % 256; owes = getD t 8 0 % 256 };
+  clears = record { asked = getD t 6 0 % 256; holds = getD t 7 0 % 256; owes = getD t 8 0 % 256; waiting = getD t 9 0 % 256 };
 }
 
 abbrev pub deskWords : Desk → List ℕ

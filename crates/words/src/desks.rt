@@ -53,6 +53,8 @@ const HOLDS: usize = 7;
 
 const OWES: usize = 8;
 
+const WAITING: usize = 9;
+
 // The ring of vehicles lies behind the two desks.
 pub(crate) const RING: usize = FIRST_DESK + 2 * Desk::FIGURES;
 
@@ -103,6 +105,7 @@ fn stopped_in(words: &[u64]) -> Desk
             asked: (words[ASKED] % BYTE) as u8,
             holds: (words[HOLDS] % BYTE) as u8,
             owes: (words[OWES] % BYTE) as u8,
+            waiting: (words[WAITING] % BYTE) as u8,
         },
     }
 }
@@ -177,13 +180,14 @@ pub fn put_guest(words: &mut Words, at: Station, guest: u8)
     put(words, at, GUEST, guest as u64);
 }
 
-// Trains enquired for and unanswered, line clears held and owed.
+// Trains enquired for and unanswered, line clears held, owed and waiting.
 pub fn put_clears(words: &mut Words, at: Station, c: Clears)
     ensures { λ _. ⌜ DeskBecomes (now (words .entry)) (now (words .exit)) at (withClears c) ⌝ }
 {
     put(words, at, ASKED, c.asked as u64);
     put(words, at, HOLDS, c.holds as u64);
     put(words, at, OWES, c.owes as u64);
+    put(words, at, WAITING, c.waiting as u64);
 }
 
 // The whole desk.

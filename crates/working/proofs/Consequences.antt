@@ -73,6 +73,16 @@ running x = holding x ++ train (numberAt x) 91 ∷ []
 abbrev following : Station → List (List ℕ)
 following x = running x ++ trainGranting (numberAt x) 121 3 ∷ []
 
+-- or it sends the reply ahead, with the first of the two; the other takes that train while it owes the second, and then the second
+abbrev ahead : Station → List (List ℕ)
+ahead x = holding x ++ trainGranting (numberAt x) 91 3 ∷ train (numberAt x) 121 ∷ []
+
+abbrev waiting : Station → List (List ℕ)
+waiting x = ahead x ++ receive (numberAt (otherAt x)) 150 (numberAt x) 2 ∷ []
+
+abbrev released : Station → List (List ℕ)
+released x = waiting x ++ receive (numberAt (otherAt x)) 160 (numberAt x) 3 ∷ []
+
 -- ---- each step has the answer and the section that document 01 fixes for it
 
 -- no bytes, BEGIN, an OPEN: whatever the forms, and whatever answers a run of these bytes is said to have
@@ -214,13 +224,15 @@ through-and-open = (
   opposed (opens 2 5 2 8 ∷ through 1 0 9 ∷ []) 0 1 2 refl (omega arith) (omega arith) refl refl refl refl,
 )
 
--- ---- while the working is in force, line clears owed by each station = those the other holds + the other's trains in the section + line clears on the way to the other
+-- ---- while the working is in force, line clears owed by each station = those the other holds + those waiting at the other + the other's trains in the section
+-- + line clears on the way to the other
 
--- what the clause is about: owed by x, held by the other, the other's trains, on the way to the other
+-- what the clause is about: owed by x, held by the other, waiting there, the other's trains, on the way to the other
 record Balance : Type 0 where
   force : Bool
   owes : ℕ
   holds : ℕ
+  waits : ℕ
   trains : ℕ
   way : ℕ
 
@@ -229,38 +241,52 @@ balanceOf l x = record {
   force = after fresh l .force;
   owes = deskOf (after fresh l) x .clears .owes;
   holds = deskOf (after fresh l) (otherAt x) .clears .holds;
+  waits = deskOf (after fresh l) (otherAt x) .clears .waiting;
   trains = trainsOf (done fresh l) (after fresh l) (otherAt x);
   way = onTheWayTo (after fresh l) (otherAt x);
 }
 
-balance : (l : List Todo) (x : Station) (b : Balance) → balanceOf l x ≡ b → b .force ≡ true → b .owes ≡ b .holds + b .trains + b .way
+balance : (l : List Todo) (x : Station) (b : Balance) → balanceOf l x ≡ b → b .force ≡ true → b .owes ≡ b .holds + b .waits + b .trains + b .way
 balance l x b e force =
     let o : deskOf (after fresh l) x .clears .owes ≡ b .owes = ap (λ (z : Balance). z .owes) e in
     let h : deskOf (after fresh l) (otherAt x) .clears .holds ≡ b .holds = ap (λ (z : Balance). z .holds) e in
+    let k : deskOf (after fresh l) (otherAt x) .clears .waiting ≡ b .waits = ap (λ (z : Balance). z .waits) e in
     let t : trainsOf (done fresh l) (after fresh l) (otherAt x) ≡ b .trains = ap (λ (z : Balance). z .trains) e in
     let w : onTheWayTo (after fresh l) (otherAt x) ≡ b .way = ap (λ (z : Balance). z .way) e in
     omega (arith, demand3 (runs fresh l) .owed (ap (λ (z : Balance). z .force) e ∙ force) x)
 
 -- a list in force with these figures, and that the first is the sum of the rest
-abbrev Owed : List (List ℕ) → Station → ℕ → ℕ → ℕ → ℕ → Type 0
-Owed l x owes holds trains way =
-    (balanceOf (list l) x ≡ record { force = true; owes = owes; holds = holds; trains = trains; way = way }) × (owes ≡ holds + trains + way)
+abbrev Owed : List (List ℕ) → Station → ℕ → ℕ → ℕ → ℕ → ℕ → Type 0
+Owed l x owes holds waits trains way =
+    (balanceOf (list l) x ≡ record { force = true; owes = owes; holds = holds; waits = waits; trains = trains; way = way }) × (owes ≡ holds + waits + trains + way)
 
-owed : (l : List (List ℕ)) (x : Station) {owes holds trains way : ℕ}
-    → balanceOf (list l) x ≡ record { force = true; owes = owes; holds = holds; trains = trains; way = way } → Owed l x owes holds trains way
+owed : (l : List (List ℕ)) (x : Station) {owes holds waits trains way : ℕ}
+    → balanceOf (list l) x ≡ record { force = true; owes = owes; holds = holds; waits = waits; trains = trains; way = way } → Owed l x owes holds waits trains way
 owed l x e = (e, balance (list l) x _ e refl)
 
 -- x is the station that opened, and the other owes it two: on a RETURN on the way, then held, then one held and one on the line, then both on the line;
 -- x owes the three that its last train takes along
 either-station : (x : Station)
-    → Owed (granting x) (otherAt x) 2 0 0 2
-    × Owed (holding x) (otherAt x) 2 2 0 0
-    × Owed (running x) (otherAt x) 2 1 1 0
-    × Owed (following x) (otherAt x) 2 0 2 0
-    × Owed (following x) x 3 0 0 3
+    → Owed (granting x) (otherAt x) 2 0 0 0 2
+    × Owed (holding x) (otherAt x) 2 2 0 0 0
+    × Owed (running x) (otherAt x) 2 1 0 1 0
+    × Owed (following x) (otherAt x) 2 0 0 2 0
+    × Owed (following x) x 3 0 0 0 3
 unfolding step-computes
 either-station A = (owed (granting A) B refl, owed (holding A) B refl, owed (running A) B refl, owed (following A) B refl, owed (following A) A refl)
 either-station B = (owed (granting B) A refl, owed (holding B) A refl, owed (running B) A refl, owed (following B) A refl, owed (following B) B refl)
+
+-- sent ahead, the three are on the way; they wait at the other while it owes the second train; and it holds them when that one is in
+sent-ahead : (x : Station)
+    → Owed (ahead x) x 3 0 0 0 3
+    × Owed (ahead x) (otherAt x) 2 0 0 2 0
+    × Owed (waiting x) x 3 0 3 0 0
+    × Owed (waiting x) (otherAt x) 1 0 0 1 0
+    × Owed (released x) x 3 3 0 0 0
+    × Owed (released x) (otherAt x) 0 0 0 0 0
+unfolding step-computes
+sent-ahead A = (owed (ahead A) A refl, owed (ahead A) B refl, owed (waiting A) A refl, owed (waiting A) B refl, owed (released A) A refl, owed (released A) B refl)
+sent-ahead B = (owed (ahead B) B refl, owed (ahead B) A refl, owed (waiting B) B refl, owed (waiting B) A refl, owed (released B) B refl, owed (released B) A refl)
 
 -- ---- two neighbours change places: each keeps the answer it had, every other place its own, and the section is the same
 

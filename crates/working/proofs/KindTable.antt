@@ -1,11 +1,11 @@
--- What each kind is refused for, in rising order, and what it does to every figure of the section, document 01's sentences row by row for either station.
+-- What each kind is refused for, in rising order, and what it does to every figure of the section, the sentences of document 01 and of T-02 row by row for either station.
 -- The sections are written out: the desk that decides has a figure at each place that the kind must keep, and the other desk is full of figures that no entry of this
 -- station may alter. A row has the section found, the bytes, the answer, and the section left, compared in every figure.
 -- Assumes nothing.
 use Prim.Native.Nat.{_+_, ℕ}
 use Rattle.working.proofs.Computing.{step-computes}
 use Rattle.working.proofs.Edges.{Edge, answersTo, expectedOf, refused, row, rowsLeavingAnother}
-use Rattle.working.proofs.Literals.{begin, counts, figures, meet, opensAs, plain, receive, resume, vehicle, withClock, withOwes, working}
+use Rattle.working.proofs.Literals.{begin, counts, figures, meet, opensAs, plain, receive, resume, vehicle, withClock, withOwes, withWaiting, working}
 use Rattle.working.specs.Sections.{fresh, freshDesk, numberAt, otherAt, padTo}
 use Rattle.working.specs.declared.Answer.the-variants.{Accepted}
 use Rattle.working.specs.declared.Desk.{Desk}
@@ -29,7 +29,7 @@ use mathlib.Core.Path.{_≡_, refl}
 
 -- the other station's desk
 abbrev theirs : Desk
-theirs = figures 50 3 1 (Since 50) true 2 6 7 8
+theirs = withWaiting 4 (figures 50 3 1 (Since 50) true 2 6 7 8)
 
 abbrev backwards : List Vehicle → List Vehicle → List Vehicle
 backwards [] l = l
@@ -95,22 +95,28 @@ returnRefused x =
     ∷ refused (Of x) (seenFrom x [] (figures 100 9998 11 (Since 71) true 1 3 0 8)) (returningWith x 1 3) IntervalRunning
     ∷ []
 
--- TRAIN: 9, 15, 16 for a grant above asked, 16 for a grant while holds stays above 0, 17, 18, 19; out set, owes above 0 and a guest are no reason
+-- TRAIN: 9, 15, 16 for a grant above asked, 16 for a grant while owes is above 0, 17, 18, 19; out set, a guest, and a grant that leaves holds above 0 are no reason
 abbrev trainRefused : Station → List Edge
 trainRefused x =
     refused (Of x) fresh (runningWith x 1 3) NotInForce
     ∷ refused (Of x) (seenFrom x [] (figures 101 9999 12 (Since 101) true 1 2 0 8)) (runningWith x 1 3) BeforeClock
     ∷ refused (Of x) (seenFrom x [] (figures 100 9999 12 (Since 71) true 1 2 0 8)) (runningWith x 1 3) NoLineClear
-    ∷ refused (Of x) (seenFrom x [] (figures 100 9999 12 (Since 71) true 1 2 1 8)) (runningWith x 1 3) GrantNotAllowed
-    ∷ refused (Of x) (seenFrom x [] (figures 100 9999 12 (Since 71) true 1 3 2 8)) (runningWith x 1 3) GrantNotAllowed
-    ∷ refused (Of x) (seenFrom x [] (figures 100 9999 12 (Since 71) true 1 3 1 8)) (runningWith x 1 3) TwelveSent
-    ∷ refused (Of x) (seenFrom x [] (figures 100 9999 11 (Since 71) true 1 3 1 8)) (runningWith x 1 3) FormsUsed
-    ∷ refused (Of x) (seenFrom x [] (figures 100 9998 11 (Since 71) true 1 3 1 8)) (runningWith x 1 3) IntervalRunning
+    ∷ refused (Of x) (seenFrom x [] (figures 100 9999 12 (Since 71) true 1 2 1 0)) (runningWith x 1 3) GrantNotAllowed
+    ∷ refused (Of x) (seenFrom x [] (figures 100 9999 12 (Since 71) true 1 3 1 1)) (runningWith x 1 3) GrantNotAllowed
+    ∷ refused (Of x) (seenFrom x [] (figures 100 9999 12 (Since 71) true 1 3 2 0)) (runningWith x 1 3) TwelveSent
+    ∷ refused (Of x) (seenFrom x [] (figures 100 9999 11 (Since 71) true 1 3 2 0)) (runningWith x 1 3) FormsUsed
+    ∷ refused (Of x) (seenFrom x [] (figures 100 9998 11 (Since 71) true 1 3 2 0)) (runningWith x 1 3) IntervalRunning
     ∷ []
 
--- a desk that may receive
+-- a desk that may receive, where line clears wait while it owes; one that owes a single train, and one that owes none
 abbrev mine : Desk
-mine = figures 90 7 3 (Since 90) true 3 6 2 7
+mine = withWaiting 4 (figures 90 7 3 (Since 90) true 3 6 2 7)
+
+abbrev owingOne : Desk
+owingOne = withOwes 1 mine
+
+abbrev owingNone : Desk
+owingNone = withOwes 0 mine
 
 -- RECEIVE: 9; 20 none, or the nearest is not the one named; 21 S's own fast one, S's own met and heading away, O's met and heading away
 abbrev receiveRefused : Station → List Edge
@@ -130,10 +136,12 @@ receiveRefused x =
 
 -- ---- what an accepted entry does
 
--- a departure of S: one more sent, the next form number, the interval from that minute, the vehicle at S's end; a vehicle of O is on the line already
+-- a departure of S: one more sent, the next form number, the interval from that minute, the vehicle at S's end; a vehicle of O is on the line already, and what waits
+-- goes on waiting
 abbrev leaves : Station → Desk → List ℕ → ℕ → Speed → Movement → ℕ → Desk → Edge
 leaves x before bytes forms speed movement class after =
-    row (seenFrom x (coming x Through 1 ∷ []) before) bytes (Accepted 8 forms speed) (seenFrom x (own x movement 8 class ∷ coming x Through 1 ∷ []) after)
+    row (seenFrom x (coming x Through 1 ∷ []) (withWaiting 4 before)) bytes (Accepted 8 forms speed)
+    (seenFrom x (own x movement 8 class ∷ coming x Through 1 ∷ []) (withWaiting 4 after))
 
 -- "8 T/G 602 (UP), 16 T/H 602 (DN)"
 abbrev way : Station → ℕ
@@ -150,7 +158,7 @@ departures x =
     ∷ leaves x (figures 90 7 2 (Since 70) false 0 5 0 0) (passing x 1) 1 (Kmh 15) Through 1 (figures 100 8 3 (Since 100) false 0 5 0 0)
     ∷ leaves x (figures 90 7 2 Stopped false 0 5 0 0) (passing x 2) 1 (Kmh 10) Through 1 (figures 100 8 3 (Since 100) false 0 5 0 0)
     ∷ leaves x (figures 90 7 2 Stopped false 0 5 0 0) (passing x 3) 1 Walking Through 1 (figures 100 8 3 (Since 100) false 0 5 0 0)
-    -- RETURN: guest and asked cleared; granted above 0 becomes owes, else owes stays; out stays; booked, with 2 if asked and 4 if granted
+    -- RETURN: guest and asked cleared; granted above 0 becomes owes, also while S owes, else owes stays; out stays; booked, with 2 if asked and 4 if granted
     ∷ leaves x (figures 90 7 2 (Since 70) true 4 6 0 7) (returning x) (way x + 160) Booked (Return 0 0) 4 (figures 100 8 3 (Since 100) true 0 0 0 7)
     ∷ leaves x (figures 90 7 2 Stopped true 5 6 0 7) (returningWith x 5 1) (way x + 166) Booked (Return 5 1) 5 (figures 100 8 3 (Since 100) true 0 0 0 1)
     -- TRAIN: booked if sent was 0, else 25 in view 1 and 10 otherwise; without a grant asked and owes stay
@@ -159,14 +167,15 @@ departures x =
     ∷ leaves x (figures 90 7 2 Stopped true 3 6 3 7) (running x 1) (way x + 96) (Kmh 25) (Train 0 0) 0 (figures 100 8 3 (Since 100) true 3 6 2 7)
     ∷ leaves x (figures 90 7 2 Stopped true 3 6 3 7) (running x 2) (way x + 96) (Kmh 10) (Train 0 0) 0 (figures 100 8 3 (Since 100) true 3 6 2 7)
     ∷ leaves x (figures 90 7 2 Stopped true 3 6 3 7) (running x 3) (way x + 96) (Kmh 10) (Train 0 0) 0 (figures 100 8 3 (Since 100) true 3 6 2 7)
-    -- a grant becomes owes, not more on top of it, and clears asked, whatever is left of it
-    ∷ leaves x (figures 90 7 2 Stopped true 3 6 1 7) (runningWith x 2 1) (way x + 102) (Kmh 25) (Train 2 1) 0 (figures 100 8 3 (Since 100) true 3 0 0 1)
+    -- a grant becomes owes, and clears asked, whatever is left of it, also on a TRAIN that leaves holds above 0
+    ∷ leaves x (figures 90 7 2 Stopped true 3 6 1 0) (runningWith x 2 1) (way x + 102) (Kmh 25) (Train 2 1) 0 (figures 100 8 3 (Since 100) true 3 0 0 1)
+    ∷ leaves x (figures 90 7 2 Stopped true 3 6 2 0) (runningWith x 2 1) (way x + 102) (Kmh 25) (Train 2 1) 0 (figures 100 8 3 (Since 100) true 3 0 1 1)
     ∷ []
 
--- a receipt at S of the vehicle nearest it; another stands behind
-abbrev arrives : Station → Vehicle → ℕ → ℕ → Desk → Edge
-arrives x v sender number after =
-    row (seenFrom x (v ∷ coming x Through 1 ∷ []) mine) (receive (numberAt x) 100 sender number) plain (seenFrom x (coming x Through 1 ∷ []) after)
+-- a receipt at S of its own vehicle, number 7, nearest it, with another behind; and of O's, number 3
+abbrev back : Station → Desk → Vehicle → Desk → Edge
+back x before v after =
+    row (seenFrom x (v ∷ coming x Through 1 ∷ []) before) (receive (numberAt x) 100 (numberAt x) 7) plain (seenFrom x (coming x Through 1 ∷ []) after)
 
 abbrev comes : Station → Desk → Vehicle → Desk → Edge
 comes x before v after = row (seenFrom x (v ∷ []) before) (receive (numberAt x) 100 (numberAt (otherAt x)) 3) plain (seenFrom x [] after)
@@ -174,21 +183,42 @@ comes x before v after = row (seenFrom x (v ∷ []) before) (receive (numberAt x
 abbrev receipts : Station → List Edge
 receipts x =
     -- S's own OPEN or THROUGH, unmet, or met and heading to S: sent falls by 1, OPEN clears out
-    arrives x (own x (Open 1) 7 1) (numberAt x) 7 (figures 100 7 2 Stopped false 3 6 2 7)
-    ∷ arrives x (own x Through 7 1) (numberAt x) 7 (figures 100 7 2 Stopped true 3 6 2 7)
-    ∷ arrives x (vehicle (Open 1) (numberAt x) 7 (numberAt x) true 1) (numberAt x) 7 (figures 100 7 2 Stopped false 3 6 2 7)
+    back x mine (own x (Open 1) 7 1) (withWaiting 4 (figures 100 7 2 Stopped false 3 6 2 7))
+    ∷ back x mine (own x Through 7 1) (withWaiting 4 (figures 100 7 2 Stopped true 3 6 2 7))
+    ∷ back x mine (vehicle (Open 1) (numberAt x) 7 (numberAt x) true 1) (withWaiting 4 (figures 100 7 2 Stopped false 3 6 2 7))
     -- one from O: sent becomes 0; OPEN makes guest and asked
-    ∷ comes x mine (coming x (Open 8) 4) (figures 100 7 0 Stopped true 4 8 2 7)
-    ∷ comes x mine (vehicle (Open 1) (numberAt (otherAt x)) 3 (numberAt x) true 5) (figures 100 7 0 Stopped true 5 1 2 7)
+    ∷ comes x mine (coming x (Open 8) 4) (withWaiting 4 (figures 100 7 0 Stopped true 4 8 2 7))
+    ∷ comes x mine (vehicle (Open 1) (numberAt (otherAt x)) 3 (numberAt x) true 5) (withWaiting 4 (figures 100 7 0 Stopped true 5 1 2 7))
     -- THROUGH: nothing more
-    ∷ comes x mine (coming x Through 1) (figures 100 7 0 Stopped true 3 6 2 7)
-    -- RETURN clears out, sets holds to granted, and asked if above 0
-    ∷ comes x mine (coming x (Return 0 0) 1) (figures 100 7 0 Stopped false 3 6 0 7)
-    ∷ comes x mine (coming x (Return 1 5) 2) (figures 100 7 0 Stopped false 3 1 5 7)
-    -- TRAIN lowers owes by 1, not below 0, sets holds to granted, and asked if above 0
-    ∷ comes x mine (coming x (Train 0 0) 0) (figures 100 7 0 Stopped true 3 6 0 6)
-    ∷ comes x mine (coming x (Train 1 5) 0) (figures 100 7 0 Stopped true 3 1 5 6)
-    ∷ comes x (withOwes 0 mine) (coming x (Train 0 0) 0) (figures 100 7 0 Stopped true 3 6 0 0)
+    ∷ comes x mine (coming x Through 1) (withWaiting 4 (figures 100 7 0 Stopped true 3 6 2 7))
+    -- RETURN clears out; asked is set if above 0; without a grant holds stays, and what waits; a grant takes the place of what waits and is not added
+    ∷ comes x mine (coming x (Return 0 0) 1) (withWaiting 4 (figures 100 7 0 Stopped false 3 6 2 7))
+    ∷ comes x mine (coming x (Return 1 5) 2) (withWaiting 5 (figures 100 7 0 Stopped false 3 1 2 7))
+    -- TRAIN lowers owes by 1, not below 0; the rest as RETURN
+    ∷ comes x mine (coming x (Train 0 0) 0) (withWaiting 4 (figures 100 7 0 Stopped true 3 6 2 6))
+    ∷ comes x mine (coming x (Train 1 5) 0) (withWaiting 5 (figures 100 7 0 Stopped true 3 1 2 6))
+    ∷ comes x (withWaiting 0 owingNone) (coming x (Train 0 0) 0) (figures 100 7 0 Stopped true 3 6 2 0)
+    ∷ []
+
+-- T-02: "where its own owes is 0 after it, holds is set to those waiting, if any, and none is left waiting", at every receipt
+abbrev releases : Station → List Edge
+releases x =
+    back x owingNone (own x (Open 1) 7 1) (figures 100 7 2 Stopped false 3 6 4 0)
+    ∷ back x owingNone (own x Through 7 1) (figures 100 7 2 Stopped true 3 6 4 0)
+    ∷ comes x owingNone (coming x (Open 8) 4) (figures 100 7 0 Stopped true 4 8 4 0)
+    ∷ comes x owingNone (coming x Through 1) (figures 100 7 0 Stopped true 3 6 4 0)
+    ∷ comes x owingNone (coming x (Return 0 0) 1) (figures 100 7 0 Stopped false 3 6 4 0)
+    ∷ comes x owingNone (coming x (Return 1 5) 2) (figures 100 7 0 Stopped false 3 1 5 0)
+    -- a TRAIN lowers owes first
+    ∷ comes x owingOne (coming x (Train 0 0) 0) (figures 100 7 0 Stopped true 3 6 4 0)
+    ∷ comes x owingOne (coming x (Train 1 5) 0) (figures 100 7 0 Stopped true 3 1 5 0)
+    ∷ comes x owingNone (coming x (Train 0 0) 0) (figures 100 7 0 Stopped true 3 6 4 0)
+    -- and a RETURN does not
+    ∷ comes x owingOne (coming x (Return 0 0) 1) (withWaiting 4 (figures 100 7 0 Stopped false 3 6 2 1))
+    -- "if any": holds stays where nothing waits
+    ∷ back x (withWaiting 0 owingNone) (own x Through 7 1) (figures 100 7 2 Stopped true 3 6 2 0)
+    ∷ comes x (withWaiting 0 owingOne) (coming x (Train 0 0) 0) (figures 100 7 0 Stopped true 3 6 2 0)
+    ∷ comes x (withWaiting 0 owingNone) (coming x (Return 0 0) 1) (figures 100 7 0 Stopped false 3 6 2 0)
     ∷ []
 
 -- ---- whoever declares, and a MEET
@@ -233,7 +263,7 @@ declared =
 
 abbrev rowsFor : Station → List Edge
 rowsFor x =
-    openRefused x (opening x 1 1 1) ++ openRefused x (passing x 1) ++ returnRefused x ++ trainRefused x ++ receiveRefused x ++ departures x ++ receipts x
+    openRefused x (opening x 1 1 1) ++ openRefused x (passing x 1) ++ returnRefused x ++ trainRefused x ++ receiveRefused x ++ departures x ++ receipts x ++ releases x
 
 abbrev kinds : List Edge
 kinds = declared ++ rowsFor A ++ rowsFor B

@@ -5,7 +5,7 @@
 -- Assumes nothing.
 use Prim.Native.Nat.{suc, ℕ}
 use Rattle.working.proofs.Computing.{step-computes}
-use Rattle.working.proofs.Literals.{counts, figures, vehicle, withAsked, withClock, withHolds, withLast, withOwes, withSent, working}
+use Rattle.working.proofs.Literals.{counts, figures, vehicle, withAsked, withClock, withHolds, withLast, withOwes, withSent, withWaiting, working}
 use Rattle.working.specs.Refusals.{numberOf}
 use Rattle.working.specs.Sections.{freshDesk, noneRefused, numberAt, otherAt, padTo, withGuest, withInterval, withOut}
 use Rattle.working.specs.Steps.{stepOf}
@@ -80,10 +80,11 @@ illAt x =
     ∷ inForce x [] (withSent 13 used)
     -- "guest: 0, or the class of the other station's opener standing here"
     ∷ inForce x [] (withGuest 6 used)
-    -- asked, holds and owes, each "0 to 8"
+    -- asked, holds, owes and what waits, each "0 to 8"
     ∷ inForce x [] (withAsked 9 used)
     ∷ inForce x [] (withHolds 9 used)
     ∷ inForce x [] (withOwes 9 used)
+    ∷ inForce x [] (withWaiting 9 used)
     -- "a running interval is not later than the clock"
     ∷ inForce x [] (withInterval (Since 41) used)
     -- "each sent is at least that station's vehicles present"
@@ -127,6 +128,7 @@ illAt x =
     ∷ idle x (withAsked 1 freshDesk)
     ∷ idle x (withHolds 1 freshDesk)
     ∷ idle x (withOwes 1 freshDesk)
+    ∷ idle x (withWaiting 1 freshDesk)
     ∷ []
 
 -- "unused places are zero": each figure of an unused place, at one of the 24 places
@@ -162,7 +164,7 @@ illMade =
 abbrev atLimitsOf : Station → List Section
 atLimitsOf x =
     -- every figure of a desk at its largest, and the interval at the clock
-    inForce x [] (figures 65535 9999 12 (Since 65535) true 5 8 8 8)
+    inForce x [] (withWaiting 8 (figures 65535 9999 12 (Since 65535) true 5 8 8 8))
     ∷ inForce x [] (withGuest 1 used)
     ∷ inForce x [] (withInterval (Since 0) used)
     ∷ inForce x [] (withInterval Stopped used)
@@ -217,8 +219,8 @@ abbrev afterEach : List Section → List Section
 afterEach [] = []
 afterEach (s ∷ l) = stepOf s [] .section ∷ afterEach l
 
--- each of 106 sections is answered 5
-pub all-five : (rowsNot 5 1 illMade ≡ []) × (length illMade ≡ 106)
+-- each of 110 sections is answered 5
+pub all-five : (rowsNot 5 1 illMade ≡ []) × (length illMade ≡ 110)
 unfolding step-computes
 all-five = (refl, refl)
 

@@ -1,8 +1,9 @@
-// What a station has asked for, holds and owes after an act.
+// What a station has asked for, holds, owes and keeps waiting after an act.
 ghost use Prim.Native.Nat.{_-_};
-ghost use Rattle.working.specs.Effects.{broughtClears, ifAny, openedClears, returnClears, trainClears};
+ghost use Rattle.working.specs.Effects.{broughtClears, grantedIn, ifAny, openedClears, releasedClears, repliedClears, returnClears, trainClears};
 ghost use mathlib.Core.Path.{_≡_};
 use working::Clears;
+use working::Movement;
 
 // One less, and not below 0.
 pub fn lowered(n: u8) -> u8
@@ -26,6 +27,7 @@ pub fn return_clears(c: Clears, granted: u8) -> Clears
         asked: 0,
         holds: c.holds,
         owes: if_any(granted, c.owes),
+        waiting: c.waiting,
     }
 }
 
@@ -51,13 +53,39 @@ pub fn opened_clears(c: Clears, asked: u8) -> Clears
     after
 }
 
-// The other station's RETURN or TRAIN brings line clears, and an enquiry where it asks.
-pub fn brought_clears(c: Clears, asked: u8, granted: u8, owes: u8) -> Clears
-    ensures { λ r. ⌜ r ≡ broughtClears c asked granted owes ⌝ }
+// The other station's RETURN or TRAIN brings an enquiry where it asks, and `owes` is what the station then owes.
+pub fn brought_clears(c: Clears, asked: u8, owes: u8) -> Clears
+    ensures { λ r. ⌜ r ≡ broughtClears c asked owes ⌝ }
 {
     Clears {
         asked: if_any(asked, c.asked),
-        holds: granted,
+        holds: c.holds,
         owes,
+        waiting: c.waiting,
     }
+}
+
+// The line clears that a vehicle carries.
+pub fn granted_in(movement: Movement) -> u8
+    ensures { λ r. ⌜ r ≡ grantedIn movement ⌝ }
+{
+    match movement {
+        Movement::Open { asked: _ } => 0,
+        Movement::Through => 0,
+        Movement::Return { asked: _, granted } => granted,
+        Movement::Train { asked: _, granted } => granted,
+    }
+}
+
+// Any vehicle received: what it grants takes the place of what waits, and what waits is held as soon as the station owes nothing.
+pub fn replied_clears(c: Clears, granted: u8) -> Clears
+    ensures { λ r. ⌜ r ≡ releasedClears (repliedClears c granted) ⌝ }
+{
+    let mut after = c;
+    after.waiting = if_any(granted, c.waiting);
+    if c.owes == 0 {
+        after.holds = if_any(after.waiting, c.holds);
+        after.waiting = 0;
+    }
+    after
 }

@@ -70,6 +70,7 @@ pub fn open_verdict(d: Desk) -> Verdict
         asked: _,
         holds,
         owes,
+        waiting: _,
     } = d.clears;
     if d.out {
         return Verdict::Refused(Refusal::OpenerAway);
@@ -94,6 +95,7 @@ pub fn return_verdict(d: Desk, granted: u8) -> Verdict
         asked,
         holds,
         owes: _,
+        waiting: _,
     } = d.clears;
     if 0 < holds {
         return Verdict::Refused(Refusal::HoldsLineClear);
@@ -113,12 +115,13 @@ pub fn train_verdict(d: Desk, granted: u8) -> Verdict
     let Clears {
         asked,
         holds,
-        owes: _,
+        owes,
+        waiting: _,
     } = d.clears;
     if holds == 0 {
         return Verdict::Refused(Refusal::NoLineClear);
     }
-    if (asked < granted) | ((0 < granted) & (1 < holds)) {
+    if (asked < granted) | ((0 < granted) & (0 < owes)) {
         return Verdict::Refused(Refusal::GrantNotAllowed);
     }
     Verdict::Allowed

@@ -197,12 +197,12 @@ module _ {d e : Desk} {time : ℕ} {m : Movement} (was : d ≡ e) where
       → withClears brought (withGuest class (withReceipt time 0 e)) ≡ otherDesk e time class m
   other-open class left is = rw (left, is, was)
 
-  pub other-return : (class : ℕ) {asked granted : ℕ} {brought : Clears} → m ≡ Return asked granted → brought ≡ broughtClears (d .clears) asked granted (d .clears .owes)
+  pub other-return : (class : ℕ) {asked granted : ℕ} {brought : Clears} → m ≡ Return asked granted → brought ≡ broughtClears (d .clears) asked (d .clears .owes)
       → withClears brought (withOut false (withReceipt time 0 e)) ≡ otherDesk e time class m
   other-return class left is = rw (left, is, was)
 
   pub other-train : (class : ℕ) {asked granted owes : ℕ} {brought : Clears} → m ≡ Train asked granted → owes ≡ d .clears .owes - 1
-      → brought ≡ broughtClears (d .clears) asked granted owes → withClears brought (withReceipt time 0 e) ≡ otherDesk e time class m
+      → brought ≡ broughtClears (d .clears) asked owes → withClears brought (withReceipt time 0 e) ≡ otherDesk e time class m
   other-train class left less is = rw (left, is, less, was)
 
 -- ---- BEGIN and RESUME: refused by the first of their tests that holds, or all is made anew, in force or not

@@ -2,7 +2,7 @@
 ghost use Rattle.step.specs.Entering.{Enters};
 ghost use Rattle.words.specs.Words.{DeskBecomes, sectionIn};
 ghost use Rattle.working.specs.Acts as acts;
-ghost use Rattle.working.specs.Effects.{arriveDesk, otherDesk, ownDesk};
+ghost use Rattle.working.specs.Effects.{arriveDesk, otherDesk, ownDesk, replied};
 ghost use Rattle.working.specs.Events.{At, stationOf};
 ghost use Rattle.working.specs.WellMade.{isOpener};
 ghost use Rattle.working.specs.Reasons.{mayEnter};
@@ -13,9 +13,11 @@ use crate::answers::accepted;
 use crate::answers::refuse;
 use crate::fields::station_of;
 use rules::brought_clears;
+use rules::granted_in;
 use rules::lowered;
 use rules::opened_clears;
 use rules::receive_verdict;
+use rules::replied_clears;
 use rules::station_verdict;
 use section::station_number;
 use words::Words;
@@ -70,18 +72,25 @@ fn arrive_other(words: &mut Words, at: Station, time: u16, d: Desk, v: Vehicle)
             put_clears(words, at, opened_clears(clears, asked));
         }
         Movement::Through => {}
-        Movement::Return { asked, granted } => {
+        Movement::Return { asked, granted: _ } => {
             put_out(words, at, false);
-            put_clears(
-                words,
-                at,
-                brought_clears(clears, asked, granted, clears.owes),
-            );
+            put_clears(words, at, brought_clears(clears, asked, clears.owes));
         }
-        Movement::Train { asked, granted } => {
+        Movement::Train { asked, granted: _ } => {
             let owes = lowered(clears.owes);
-            put_clears(words, at, brought_clears(clears, asked, granted, owes));
+            put_clears(words, at, brought_clears(clears, asked, owes));
         }
+    }
+}
+
+// The reply that the vehicle brings, and what waits: the desk is left alone where it brings none and nothing waits.
+fn put_reply(words: &mut Words, at: Station, granted: u8)
+    ensures { λ _. ⌜ DeskBecomes (now (words .entry)) (now (words .exit)) at (replied granted) ⌝ }
+{
+    let d = desk(words, at);
+    let clears = d.clears;
+    if (0 < granted) | (0 < clears.waiting) {
+        put_clears(words, at, replied_clears(clears, granted));
     }
 }
 
@@ -96,6 +105,7 @@ fn arrive(words: &mut Words, at: Station, time: u16, d: Desk, v: Vehicle)
     } else {
         arrive_other(words, at, time, d, v);
     }
+    put_reply(words, at, granted_in(movement));
 }
 
 pub(crate) fn enter_receive(words: &mut Words, e: Entry) -> Answer

@@ -207,9 +207,10 @@ no-open-away (m ∷ l) t h e = h .0
 -- ahead of an OPEN or THROUGH may stand what is no OPEN and grants nothing
 opener-ahead : (m : Movement) (l : List Movement) → Opens m → Every NoOpen l → granted l ≡ 0 → Every (Ahead m) l
 opener-ahead m [] op h e = tt
-opener-ahead m (n ∷ l) op h e =
-    (record { return = opener m op .return; no-open = h .0; grants = λ some. absurd (omega arith); fast = λ fast. absurd (clash op fast) },
-    opener-ahead m l op (h .1) (omega arith))
+opener-ahead m (n ∷ l) op h e = (
+  record { return = opener m op .return; no-open = h .0; grants = λ some. absurd (omega arith); fast = λ fast. absurd (clash op fast) },
+  opener-ahead m l op (h .1) (omega arith),
+)
 
 -- a TRAIN is no OPEN and no opener
 record Hauled (m : Movement) : Type 0 where
@@ -226,9 +227,10 @@ hauled (Train a g) is = record { no-open = refl; fast = refl }
 trains-ahead : (a g : ℕ) (l : List Movement) → Every Trains l → (0 < granted l → g ≡ 0) → Every (Ahead (Train a g)) l
 trains-ahead a g [] h free = tt
 trains-ahead a g (m ∷ l) h free =
-    let k = hauled m (h .0) in
-    (record { return = refl; no-open = k .no-open; grants = λ some. record { train = refl; grants = free (omega arith) }; fast = λ fast. k .fast },
-    trains-ahead a g l (h .1) (λ some. free (omega arith)))
+    let k = hauled m (h .0) in (
+      record { return = refl; no-open = k .no-open; grants = λ some. record { train = refl; grants = free (omega arith) }; fast = λ fast. k .fast },
+      trains-ahead a g l (h .1) (λ some. free (omega arith)),
+    )
 
 -- the farthest, m, and those behind it
 row-snoc : (l : List Movement) (m : Movement) → InRow (l ++ m ∷ []) → InRow l × Every (λ n. Ahead n m) l

@@ -16,6 +16,7 @@ returns c =
     let second = third .before .before .before in
     let first = second .before .before .before in
     let clears = first .before .before .before .args .c in
+    let ranges = first .before .struct-known .given in
     let asked : clears .asked % 256 ≡ clears .asked = mod-eq-of-lt (omega arith) in
     let holds : clears .holds % 256 ≡ clears .holds = mod-eq-of-lt (omega arith) in
     let owes : clears .owes % 256 ≡ clears .owes = mod-eq-of-lt (omega arith) in

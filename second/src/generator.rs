@@ -354,8 +354,9 @@ impl Generator {
         }
     }
 
-    /// A reply as the next train of this desk may carry it. It mostly waits for
-    /// the last train of a series, so that others come by turns with and without.
+    /// A reply as the next train of this desk may carry it. Half of the trains that
+    /// leave line clears behind go without, so that the reply rides with any train
+    /// of a series and not mostly with the first.
     fn reply_by_train(&mut self, desk: &Desk) -> u8 {
         let ahead = desk.holds > 1;
         if !self.options.edition.lets_a_train_grant(desk) || (ahead && self.random.chance(50)) {
@@ -384,11 +385,17 @@ impl Generator {
             }
         }
         if entry.kind == Kind::Return.number() || entry.kind == Kind::Train.number() {
-            spoiled.push(Entry {
-                map: entry.map | bit::GRANTED,
-                granted: (desk.asked + 1).min(Section::MOST_CLEARS),
-                ..entry
-            });
+            // More than was asked, or a grant by a station that may owe.
+            for granted in [
+                (desk.asked + 1).min(Section::MOST_CLEARS),
+                desk.asked.max(1),
+            ] {
+                spoiled.push(Entry {
+                    map: entry.map | bit::GRANTED,
+                    granted,
+                    ..entry
+                });
+            }
         }
         if entry.map & bit::FORM != 0 {
             let form = self.neighbouring_form(entry.form);

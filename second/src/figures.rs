@@ -12,8 +12,8 @@ use crate::section::{Desk, Refused, Section, Vehicle};
 const PLACE_LENGTH: usize = 9;
 
 /// The bytes of one desk: clock (2), last form number (2), sent, interval
-/// running, its minute (2), out, guest, asked, holds, owes.
-const DESK_LENGTH: usize = 13;
+/// running, its minute (2), out, guest, asked, holds, owes, waiting.
+const DESK_LENGTH: usize = 14;
 
 /// The bytes of the counts of refused entries: for A (4), for B (4), of no
 /// station (4).
@@ -125,6 +125,7 @@ fn desk_figures(desk: &Desk) -> [u8; DESK_LENGTH] {
         desk.asked,
         desk.holds,
         desk.owes,
+        desk.waiting,
     ]
 }
 
@@ -169,6 +170,7 @@ impl Rest<'_> {
             asked: self.byte(),
             holds: self.byte(),
             owes: self.byte(),
+            waiting: self.byte(),
         }
     }
 
@@ -211,22 +213,22 @@ mod tests {
     use super::*;
 
     #[test]
-    fn there_are_256_of_them() {
-        assert_eq!(FIGURES_LENGTH, 256);
-        assert_eq!(Section::fresh().figures(), Some([0; 256]));
-        assert_eq!(Section::from_figures(&[0; 256]), Some(Section::fresh()));
+    fn there_are_258_of_them() {
+        assert_eq!(FIGURES_LENGTH, 258);
+        assert_eq!(Section::fresh().figures(), Some([0; 258]));
+        assert_eq!(Section::from_figures(&[0; 258]), Some(Section::fresh()));
     }
 
     #[test]
     fn the_digest_is_taken_figure_by_figure() {
         let mut figures = [0; FIGURES_LENGTH];
         assert_eq!(digest(&figures), 0);
-        figures[255] = 5;
+        figures[257] = 5;
         assert_eq!(digest(&figures), 5);
-        figures[254] = 2;
+        figures[256] = 2;
         assert_eq!(digest(&figures), 2 * 31 + 5);
         // 31 to the seventh is 27,512,614,111, which is over the largest.
-        figures[248] = 1;
+        figures[250] = 1;
         let exact = 27_512_614_111_u64 + 2 * 31 + 5;
         assert_eq!(u64::from(digest(&figures)), exact % 4_294_967_296);
     }

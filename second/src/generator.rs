@@ -7,10 +7,11 @@
 //! spoiled in one figure, entries made without looking, and bytes that are no
 //! entry.
 
+use crate::edition::Edition;
 use crate::entry::{bit, encode, entry_length, laid_out, Entry, Kind, LONGEST_ENTRY};
 use crate::random::Random;
 use crate::section::{Desk, Refused, Section, Station, Vehicle};
-use crate::step::step_in_place;
+use crate::step::{step_by, Answer};
 
 /// How a log is to be made.
 #[derive(Clone, Copy, Debug, Default, PartialEq, Eq)]
@@ -22,6 +23,8 @@ pub struct Options {
     /// Use up nearly all form numbers of one station first. This takes some
     /// 160,000 bytes, which come on top of the entries wished for.
     pub worn: bool,
+    /// By which edition of the step entries are accepted.
+    pub edition: Edition,
     /// End the log at so many bytes, inside an entry if need be; where only
     /// accepted entries are wished for, before an entry that would be cut.
     pub bytes: Option<usize>,
@@ -108,7 +111,7 @@ impl Generator {
     pub fn next_entry(&mut self) -> Vec<u8> {
         let bytes = self.whole_bytes();
         // Whether it is accepted is for those to see who read the log.
-        let _ = step_in_place(&mut self.section, &bytes);
+        let _ = self.step(&bytes);
         bytes
     }
 
@@ -123,8 +126,12 @@ impl Generator {
         } else {
             self.cut_entry()
         };
-        let _ = step_in_place(&mut self.section, &bytes);
+        let _ = self.step(&bytes);
         bytes
+    }
+
+    fn step(&mut self, bytes: &[u8]) -> Answer {
+        step_by(self.options.edition, &mut self.section, bytes)
     }
 
     fn desk(&self, station: Station) -> Desk {
@@ -237,7 +244,7 @@ impl Generator {
 
     fn is_accepted(&self, entry: &Entry) -> bool {
         let mut section = self.section.clone();
-        step_in_place(&mut section, &bytes_of(entry)).is_ok()
+        step_by(self.options.edition, &mut section, &bytes_of(entry)).is_ok()
     }
 
     /// One of the candidates; where the mood wants none of them, any.
@@ -295,13 +302,8 @@ impl Generator {
                 Entry::send_back(station, time, asked, granted)
             }
             _ => {
-                let last_of_series = desk.holds <= 1;
                 let asked = self.perhaps_some_trains();
-                let granted = if last_of_series {
-                    self.reply(desk.asked)
-                } else {
-                    0
-                };
+                let granted = self.reply_by_train(&desk);
                 Entry::train(station, time, view, asked, granted)
             }
         }
@@ -352,6 +354,17 @@ impl Generator {
         }
     }
 
+    /// A reply as the next train of this desk may carry it. Half of the trains that
+    /// leave line clears behind go without, so that the reply rides with any train
+    /// of a series and not mostly with the first.
+    fn reply_by_train(&mut self, desk: &Desk) -> u8 {
+        let ahead = desk.holds > 1;
+        if !self.options.edition.lets_a_train_grant(desk) || (ahead && self.random.chance(50)) {
+            return 0;
+        }
+        self.reply(desk.asked)
+    }
+
     /// A likely entry with one figure altered to its edge or beyond it.
     fn spoiled_entry(&mut self) -> Entry {
         let entry = self.likely_entry();
@@ -372,11 +385,17 @@ impl Generator {
             }
         }
         if entry.kind == Kind::Return.number() || entry.kind == Kind::Train.number() {
-            spoiled.push(Entry {
-                map: entry.map | bit::GRANTED,
-                granted: (desk.asked + 1).min(Section::MOST_CLEARS),
-                ..entry
-            });
+            // More than was asked, or a grant by a station that may owe.
+            for granted in [
+                (desk.asked + 1).min(Section::MOST_CLEARS),
+                desk.asked.max(1),
+            ] {
+                spoiled.push(Entry {
+                    map: entry.map | bit::GRANTED,
+                    granted,
+                    ..entry
+                });
+            }
         }
         if entry.map & bit::FORM != 0 {
             let form = self.neighbouring_form(entry.form);
@@ -556,7 +575,7 @@ impl Generator {
 
     fn enter(&mut self, log: &mut Vec<u8>, entry: &Entry) {
         let bytes = bytes_of(entry);
-        let answer = step_in_place(&mut self.section, &bytes);
+        let answer = self.step(&bytes);
         debug_assert!(answer.is_ok(), "{entry:?}: {answer:?}");
         log.extend(bytes);
     }
@@ -644,6 +663,7 @@ fn any_desk(random: &mut Random, present: u8) -> Desk {
         asked: any_figure(random),
         holds: any_figure(random),
         owes: any_figure(random),
+        waiting: any_figure(random),
     }
 }
 

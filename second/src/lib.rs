@@ -1,17 +1,21 @@
 //! Two stations and the single line section between them, worked under total
-//! failure of communication: a second reading of the document and of request
-//! T-01, written from them alone, so that the first can be compared with it.
+//! failure of communication: a second reading of the document and of requests
+//! T-01 and T-02, written from them alone, so that the first can be compared
+//! with it.
 //!
 //! * [`decode`] and [`encode`] turn bytes into an [`Entry`] and back,
 //! * [`Section`] is all that is held, and [`Section::is_well_made`] tests it,
 //! * [`step()`] and [`step_in_place`] answer one entry, and [`refused_for`] says
 //!   whose a refused one is,
+//! * [`step_by`] answers by an [`Edition`] of choice: today's step, or document
+//!   01's own, with which it is compared,
 //! * [`Run`] runs a whole log, and [`list`] prints it,
 //! * [`generator`] makes logs, and [`walk`] holds the claims about lists of
 //!   steps against them,
 //! * [`cases`] are stored for another program, with what must come of each.
 
 pub mod cases;
+pub mod edition;
 pub mod entry;
 pub mod figures;
 pub mod generator;
@@ -23,9 +27,10 @@ pub mod section;
 pub mod step;
 pub mod walk;
 
+pub use edition::Edition;
 pub use entry::{decode, encode, entry_length, Entry, Kind};
 pub use lister::{list, LONGEST_LOG};
 pub use log::{Line, Reader, Run, Writer};
 pub use refusal::Refusal;
 pub use section::{Desk, Refused, Section, Station, Vehicle};
-pub use step::{refused_for, step, step_in_place, Accepted, Answer, Speed};
+pub use step::{refused_for, step, step_by, step_in_place, Accepted, Answer, Speed};

@@ -36,7 +36,7 @@ pub enum Refusal {
     NoGuest = 14,
     /// The station holds no line clear.
     NoLineClear = 15,
-    /// More granted than was asked, or a grant on a train that is not the last.
+    /// More granted than was asked, or a grant on a TRAIN while its station owes.
     GrantNotDue = 16,
     /// Twelve departures are counted already.
     TwelveSent = 17,

@@ -81,6 +81,9 @@ pub struct Desk {
     pub holds: u8,
     /// Line clears given and not yet arrived, 0 to 8.
     pub owes: u8,
+    /// Line clears for the station's own trains that came in while it still
+    /// owed, 0 to 8.
+    pub waiting: u8,
 }
 
 impl Desk {
@@ -91,6 +94,7 @@ impl Desk {
             && self.asked <= Section::MOST_CLEARS
             && self.holds <= Section::MOST_CLEARS
             && self.owes <= Section::MOST_CLEARS
+            && self.waiting <= Section::MOST_CLEARS
             && self.interval.is_none_or(|started| started <= self.clock)
     }
 }

@@ -1,16 +1,19 @@
 //! Long walks that hold the claims about lists of steps against themselves.
 //!
 //! A list starts from the fresh section, and each step gets the section that
-//! the step before it left. Four claims are tested:
+//! the step before it left. Five claims are tested:
 //!
 //! * two vehicles heading towards one another both left on T/B 602 at 15 km/h
 //!   or less, at the end of every list;
-//! * in force, the line clears owed by a station are those the other holds, the
-//!   other's trains in the section and the line clears on the way to the other;
+//! * in force, the line clears owed by a station are those the other holds, those
+//!   waiting there, the other's trains in the section and the line clears on the
+//!   way to the other;
 //! * each refused step is counted once, for its station or as of none;
 //! * two neighbours that are accepted, of different stations, no MEET, the
 //!   second not receiving what the first sent, may change places: every answer
-//!   and every figure of the last section, the three counts among them, stay.
+//!   and every figure of the last section, the three counts among them, stay;
+//! * as long as document 01's own step has refused none of a list, every answer
+//!   and every section is as that step gives it, with no line clear waiting.
 //!
 //! What a vehicle left on is looked up in the list of entries and answers and
 //! not in the vehicle's own record. Every state of a walk is the end of a list,
@@ -18,11 +21,12 @@
 
 use std::fmt;
 
+use crate::edition::Edition;
 use crate::entry::{decode, Entry, Kind};
 use crate::generator::{Generator, Options};
 use crate::random::Random;
-use crate::section::{Refused, Section, Station, Vehicle};
-use crate::step::{form, refused_for, step, step_in_place, Accepted, Answer, Speed};
+use crate::section::{Desk, Refused, Section, Station, Vehicle};
+use crate::step::{form, refused_for, step, step_by, step_in_place, Accepted, Answer, Speed};
 
 /// The longest list of a walk. Each swap reruns what is left of its list, so
 /// the time for a list grows with the square of its length.
@@ -86,10 +90,16 @@ pub struct Tally {
     pub opposed_pairs: u64,
     /// States in which a line clear was owed.
     pub owing_states: u64,
+    /// States in which line clears were waiting.
+    pub waiting_states: u64,
     /// Neighbours that changed places.
     pub swaps: u64,
     /// Steps run again after a swap.
     pub rerun: u64,
+    /// States compared with those that document 01's own step leads to.
+    pub compared_states: u64,
+    /// Lists so compared to their end.
+    pub compared_lists: u64,
     /// The most vehicles in the section at one time.
     pub most_vehicles: usize,
 }
@@ -99,14 +109,18 @@ impl fmt::Display for Tally {
         write!(
             formatter,
             "lists {}, states {}, refused {}, opposed pairs {}, owing states {}, \
-             swaps {}, steps rerun {}, most vehicles {}",
+             waiting states {}, swaps {}, steps rerun {}, \
+             states compared with document 01 {}, lists compared whole {}, most vehicles {}",
             self.lists,
             self.states,
             self.refused,
             self.opposed_pairs,
             self.owing_states,
+            self.waiting_states,
             self.swaps,
             self.rerun,
+            self.compared_states,
+            self.compared_lists,
             self.most_vehicles
         )
     }
@@ -125,25 +139,44 @@ pub fn walk(seed: u64, steps: u64) -> Result<Tally, Failure> {
 ///
 /// # Errors
 ///
-/// The first claim that does not hold.
+/// The first claim of demand 3 that does not hold; where all hold to the end, the
+/// first list that is not answered as before.
 pub fn walk_with(stepper: &impl Stepper, seed: u64, steps: u64) -> Result<Tally, Failure> {
     let mut random = Random::new(seed);
     let mut tally = Tally::default();
+    let mut as_before = Ok(());
     while tally.states < steps {
         let left = u16::try_from(steps - tally.states).unwrap_or(u16::MAX);
         let length = random.between(1, LONGEST_LIST).min(left);
         let mut generator = Generator::new(random.word(), any_options(&mut random));
         let (list, sections) = walk_list(stepper, &mut generator, length, &mut tally)?;
         swap_neighbours(stepper, &list, &sections, &mut tally)?;
+        let compared = compare(&list, &sections, &mut tally);
+        as_before = as_before.and(compared);
         tally.lists += 1;
     }
-    Ok(tally)
+    as_before.map(|()| tally)
 }
 
+fn compare(list: &[Step], sections: &[Section], tally: &mut Tally) -> Result<(), Failure> {
+    let compared = check_as_before(list, sections)?;
+    tally.compared_states += compared as u64;
+    tally.compared_lists += u64::from(compared == list.len());
+    Ok(())
+}
+
+/// One list in four has only entries that document 01's own step accepts, so
+/// that many are compared with it to their end.
 fn any_options(random: &mut Random) -> Options {
+    let as_before = random.chance(25);
     Options {
-        accepted: random.chance(40),
+        accepted: as_before || random.chance(40),
         full: random.chance(20),
+        edition: if as_before {
+            Edition::Document01
+        } else {
+            Edition::Today
+        },
         ..Options::default()
     }
 }
@@ -188,8 +221,9 @@ fn check_state(list: &[Step], section: &Section, tally: &mut Tally) -> Result<()
     tally.opposed_pairs += check_opposed(list, section)?;
     check_owed(list, section)?;
     check_counts(list, section)?;
-    let owing = section.desks.iter().any(|desk| desk.owes > 0);
-    tally.owing_states += u64::from(owing);
+    let any = |figure: fn(&Desk) -> u8| section.desks.iter().any(|desk| figure(desk) > 0);
+    tally.owing_states += u64::from(any(|desk| desk.owes));
+    tally.waiting_states += u64::from(any(|desk| desk.waiting));
     Ok(())
 }
 
@@ -265,15 +299,17 @@ pub fn check_owed(list: &[Step], section: &Section) -> Result<(), Failure> {
     }
     for station in Station::BOTH {
         let owed = usize::from(section.desk(station).owes);
-        let held = usize::from(section.desk(station.other()).holds);
+        let other = section.desk(station.other());
+        let (held, waiting) = (usize::from(other.holds), usize::from(other.waiting));
         let trains = trains_of(list, section, station.other());
         let on_the_way: usize = section
             .sent_by(station)
             .map(|vehicle| usize::from(vehicle.granted))
             .sum();
-        if owed != held + trains + on_the_way {
+        if owed != held + waiting + trains + on_the_way {
             let claim = format!(
-                "{station:?} owes {owed}: held {held}, trains {trains}, on the way {on_the_way}"
+                "{station:?} owes {owed}: held {held}, waiting {waiting}, trains {trains}, \
+                 on the way {on_the_way}"
             );
             return fail(list, section, &claim);
         }
@@ -304,6 +340,30 @@ fn trains_of(list: &[Step], section: &Section, station: Station) -> usize {
         .sent_by(station)
         .filter(|vehicle| matches!(departure_of(list, vehicle), Some((Kind::Train, _, _))))
         .count()
+}
+
+/// Compares a list with what document 01's own step makes of it, up to the first
+/// step that it refuses, and counts the states compared. `sections` has the
+/// section before each step, and the last one at its end.
+///
+/// # Errors
+///
+/// An answer or a section that is not as document 01's own step gives it.
+pub fn check_as_before(list: &[Step], sections: &[Section]) -> Result<usize, Failure> {
+    let mut before = Section::fresh();
+    for (place, (step, after)) in list.iter().zip(&sections[1..]).enumerate() {
+        let answer = step_by(Edition::Document01, &mut before, &step.bytes);
+        if answer.is_err() {
+            return Ok(place);
+        }
+        // With nothing waiting in document 01's section, all figures have to be
+        // the same.
+        if step.answer != answer || *after != before {
+            let claim = format!("not as before: {answer:?} {before:?}");
+            return fail(&list[..=place], after, &claim);
+        }
+    }
+    Ok(list.len())
 }
 
 /// Changes the places of every two neighbours that may change them, and runs
@@ -440,9 +500,80 @@ mod tests {
         assert!(check_owed(&list, &section).is_err());
         section.desks[1].holds = 1;
         assert_eq!(check_owed(&list, &section), Ok(()));
+        // One held and one waiting are two, and two waiting as well.
+        section.desks[1].waiting = 1;
+        assert!(check_owed(&list, &section).is_err());
+        section.desks[0].owes = 2;
+        assert_eq!(check_owed(&list, &section), Ok(()));
+        (section.desks[1].holds, section.desks[1].waiting) = (0, 2);
+        assert_eq!(check_owed(&list, &section), Ok(()));
+        (section.desks[1].holds, section.desks[1].waiting) = (1, 0);
         section.in_force = false;
         section.desks[1].holds = 0;
         assert_eq!(check_owed(&list, &section), Ok(()));
+    }
+
+    /// The opener of A comes back with a reply for two and an enquiry for one;
+    /// A's two trains leave, the reply with the first or with the last of them.
+    fn two_trains(granted_by_first: u8, granted_by_last: u8) -> Vec<Entry> {
+        vec![
+            Entry::begin(),
+            Entry::open(Station::A, 0, 1, 1, 2),
+            Entry::receive(Station::B, 0, Station::A, 1),
+            Entry::send_back(Station::B, 0, 1, 2),
+            Entry::receive(Station::A, 0, Station::B, 1),
+            Entry::train(Station::A, 0, 1, 0, granted_by_first),
+            Entry::train(Station::A, 30, 1, 0, granted_by_last),
+            Entry::receive(Station::B, 40, Station::A, 2),
+            Entry::receive(Station::B, 70, Station::A, 3),
+        ]
+    }
+
+    fn run_with_sections(entries: &[Entry]) -> (Vec<Step>, Vec<Section>) {
+        let sections = (0..=entries.len()).map(|length| run(&entries[..length]).1);
+        (run(entries).0, sections.collect())
+    }
+
+    #[test]
+    fn a_list_is_compared_up_to_what_document_01_refuses() {
+        let (list, sections) = run_with_sections(&two_trains(0, 1));
+        assert_eq!(check_as_before(&list, &sections), Ok(9));
+        let (list, sections) = run_with_sections(&two_trains(1, 0));
+        assert!(list.iter().all(|step| step.answer.is_ok()));
+        assert_eq!(check_as_before(&list, &sections), Ok(5));
+        // The grant waits at B until the second train is in.
+        let at_b = |place: usize| {
+            let desk = sections[place].desks[1];
+            [desk.holds, desk.owes, desk.waiting]
+        };
+        assert_eq!([at_b(8), at_b(9)], [[0, 1, 1], [1, 0, 0]]);
+        // What today's step refuses as well is not compared either.
+        let (list, sections) = run_with_sections(&two_trains(0, 2));
+        assert_eq!(list[6].answer, Err(Refusal::GrantNotDue));
+        assert_eq!(check_as_before(&list, &sections), Ok(6));
+    }
+
+    #[test]
+    fn another_answer_or_another_section_than_before_fails() {
+        let (list, sections) = run_with_sections(&two_trains(0, 1));
+        let mut other_answer = list.clone();
+        other_answer[6].answer.as_mut().unwrap().speed = Speed::Booked;
+        assert!(check_as_before(&other_answer, &sections).is_err());
+        other_answer[6].answer = Err(Refusal::GrantNotDue);
+        assert!(check_as_before(&other_answer, &sections).is_err());
+        let changes: [fn(&mut Section); 3] = [
+            |section| section.desks[0].waiting = 1,
+            |section| section.desks[1].clock = 0,
+            |section| section.refused.of_none = 1,
+        ];
+        for change in changes {
+            for place in [1, 9] {
+                let mut sections = sections.clone();
+                change(&mut sections[place]);
+                let differs = sections[place] != run(&two_trains(0, 1)[..place]).1;
+                assert_eq!(check_as_before(&list, &sections).is_err(), differs);
+            }
+        }
     }
 
     #[test]

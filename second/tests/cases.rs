@@ -29,11 +29,11 @@ const FOR_A: usize = PRESENT + 2;
 const FOR_B: usize = FOR_A + 4;
 const OF_NONE: usize = FOR_B + 4;
 const DESK_A: usize = OF_NONE + 4;
-const DESK_B: usize = DESK_A + 13;
+const DESK_B: usize = DESK_A + 14;
 
 /// The figures of a section, of which all others are 0.
 fn figures(runs: &[(usize, &[u8])]) -> Figures {
-    let mut figures = [0; 256];
+    let mut figures = [0; 258];
     for &(start, run) in runs {
         figures[start..start + run.len()].copy_from_slice(run);
     }
@@ -211,7 +211,7 @@ fn bytes_refused_and_a_cut_end_by_hand() {
 
 #[test]
 fn an_empty_log_by_hand() {
-    let zeros = "00".repeat(256);
+    let zeros = "00".repeat(258);
     let expected = format!("log 0\nat 0 end next 0\nvalue {zeros}\nmemory {zeros}\ncopy \n");
     assert_eq!(log_case(&[]).expected(), expected);
     assert_eq!(log_case(&[]).input(), [1, 0, 0]);
@@ -377,7 +377,7 @@ fn parsed(mut input: &[u8]) -> Vec<Case> {
                 log: bytes(&mut input),
             },
             2 => {
-                let figures: &Figures = take(&mut input, 256).try_into().unwrap();
+                let figures: &Figures = take(&mut input, 258).try_into().unwrap();
                 let section = Box::new(Section::from_figures(figures).unwrap());
                 Case::Step {
                     section,

@@ -1,4 +1,4 @@
-//! The 256 figures of a section: each in its place, and back again.
+//! The 258 figures of a section: each in its place, and back again.
 
 use second::figures::{digest, Figures, FIGURES_LENGTH};
 use second::generator::{any_section, Generator, Options};
@@ -8,7 +8,7 @@ use second::{Desk, Kind, Refused, Section, Vehicle};
 // Where some figures behind the 24 places stand.
 const IN_FORCE: usize = 24 * 9 + 1;
 const DESK_A: usize = IN_FORCE + 1 + 3 * 4;
-const DESK_B: usize = DESK_A + 13;
+const DESK_B: usize = DESK_A + 14;
 
 /// A section with another number in every figure of its first place, its last
 /// place and its desks.
@@ -53,6 +53,7 @@ fn numbered() -> Section {
             asked: 0x49,
             holds: 0x4A,
             owes: 0x4B,
+            waiting: 0x4C,
         },
         Desk {
             clock: 0x5152,
@@ -64,6 +65,7 @@ fn numbered() -> Section {
             asked: 0x57,
             holds: 0x58,
             owes: 0x59,
+            waiting: 0x5A,
         },
     ];
     section
@@ -85,9 +87,9 @@ fn every_figure_stands_in_its_place() {
     expected.extend([0x12, 1, 0x13, 0x14, 0x15, 0x16]);
     expected.extend([0x17, 0x18, 0x19, 0x1A, 0x1B, 0x1C, 0x1D, 0x1E]);
     expected.extend([0x41, 0x42, 0x43, 0x44, 0x45, 1, 0x46, 0x47, 1]);
-    expected.extend([0x48, 0x49, 0x4A, 0x4B]);
+    expected.extend([0x48, 0x49, 0x4A, 0x4B, 0x4C]);
     expected.extend([0x51, 0x52, 0x53, 0x54, 0x55, 0, 0, 0, 0]);
-    expected.extend([0x56, 0x57, 0x58, 0x59]);
+    expected.extend([0x56, 0x57, 0x58, 0x59, 0x5A]);
     assert_eq!(figures.to_vec(), expected);
 }
 

@@ -6,8 +6,8 @@ use std::sync::LazyLock;
 
 use second::generator::{log, Options};
 use second::{
-    entry_length, list, Accepted, Entry, Kind, Line, Refusal, Run, Section, Speed, Station,
-    LONGEST_LOG,
+    entry_length, list, Accepted, Edition, Entry, Kind, Line, Refusal, Run, Section, Speed,
+    Station, LONGEST_LOG,
 };
 
 /// Logs of the lister's size: these six have to be enough for all claims.
@@ -109,6 +109,10 @@ fn places_come_by(before: &Section, line: &Line, after: &Section) -> Vec<String>
         name(desk.holds == 8, &format!("{letter} holds 8"));
         name(desk.owes == 8, &format!("{letter} owes 8"));
         name(desk.asked == 8, &format!("{letter} is asked for 8"));
+        name(desk.waiting == 8, &format!("8 wait at {letter}"));
+        let waited = before.desk(station).waiting;
+        let moved = waited > 0 && desk.waiting == 0 && desk.holds == waited;
+        name(moved, &format!("{letter} holds what waited"));
         name(
             desk.clock == u16::MAX,
             &format!("{letter} at the last minute"),
@@ -151,6 +155,11 @@ fn name_entry(
                 desk.holds == 1 && desk.sent == 7,
                 "eighth train of a series",
             );
+            let left = ["none", "some"][usize::from(desk.holds > 1)];
+            name(
+                entry.granted > 0,
+                &format!("Train grants and leaves {left}"),
+            );
         }
         Kind::Meet => {
             let named = before
@@ -174,10 +183,14 @@ fn name_entry(
             );
             let stale = !own && left_on == Kind::Train && nearest.asked == 0 && desk.asked > 0;
             name(stale, "an enquiry outlives a train without one");
+            let asks_more = left_on == Kind::Train && nearest.asked > 0 && desk.waiting > 0;
+            name(asks_more, "an enquiry comes in while clears wait");
         }
         Kind::Resume => {
             let owes = before.desks.iter().any(|desk| desk.owes > 0);
             name(owes, "resumed though a clear is owed");
+            let waits = before.desks.iter().any(|desk| desk.waiting > 0);
+            name(waits, "resumed though clears wait");
         }
         Kind::Begin => name(before.refused.total() > 0, "begun with refusals counted"),
     }
@@ -192,6 +205,8 @@ fn places_wished_for() -> BTreeSet<String> {
         wished.insert(format!("{letter} holds 8"));
         wished.insert(format!("{letter} owes 8"));
         wished.insert(format!("{letter} is asked for 8"));
+        wished.insert(format!("8 wait at {letter}"));
+        wished.insert(format!("{letter} holds what waited"));
         wished.insert(format!("{letter} at the last minute"));
         wished.insert(format!("forms of {letter} over 255"));
         wished.insert(format!("12 of {letter}"));
@@ -224,7 +239,11 @@ fn places_wished_for() -> BTreeSet<String> {
         "Return of the other, met false",
         "Train of the other, met false",
         "an enquiry outlives a train without one",
+        "Train grants and leaves none",
+        "Train grants and leaves some",
+        "an enquiry comes in while clears wait",
         "resumed though a clear is owed",
+        "resumed though clears wait",
         "begun with refusals counted",
     ];
     wished.extend(others.map(str::to_owned));
@@ -244,6 +263,57 @@ fn deep_states_are_reached() {
     let unforeseen: Vec<_> = reached.difference(&wished).collect();
     assert!(missed.is_empty(), "missed {missed:?}");
     assert!(unforeseen.is_empty(), "unforeseen {unforeseen:?}");
+}
+
+/// Whether line clears wait in some state of a log.
+fn clears_wait_in(log: &[u8]) -> bool {
+    let mut wait = false;
+    for_each_line(log, |_, _, after| {
+        wait |= after.desks.iter().any(|desk| desk.waiting > 0);
+    });
+    wait
+}
+
+/// How many logs of 300 entries have line clears waiting.
+fn logs_with_clears_waiting(seeds: impl Iterator<Item = u64>, options: Options) -> usize {
+    seeds
+        .filter(|&seed| clears_wait_in(&log(seed, 300, options)))
+        .count()
+}
+
+#[test]
+fn clears_wait_in_most_logs_and_in_most_accepted_logs() {
+    let accepted = Options {
+        accepted: true,
+        ..Options::default()
+    };
+    let many = logs_with_clears_waiting(1..=48, Options::default());
+    assert!(many > 32, "{many} of 48");
+    let many = logs_with_clears_waiting(101..=108, accepted);
+    assert!(many > 4, "{many} of 8");
+    let many = logs_with_clears_waiting(1..=48, accepted);
+    assert!(many > 32, "{many} of 48");
+}
+
+/// What is made by document 01's own step is also accepted by today's, and no
+/// line clear waits in it.
+#[test]
+fn a_log_by_document_01_is_accepted_and_has_nothing_waiting() {
+    let mut grants = 0;
+    for seed in 0..20 {
+        let options = Options {
+            accepted: true,
+            edition: Edition::Document01,
+            ..Options::default()
+        };
+        let log = log(seed, 300, options);
+        assert!(!clears_wait_in(&log), "seed {seed}");
+        for line in Run::new(&log) {
+            assert!(line.answer.is_ok(), "seed {seed}");
+            grants += line.entry.map_or(0, |entry| u32::from(entry.granted > 0));
+        }
+    }
+    assert!(grants > 100, "{grants}");
 }
 
 #[test]

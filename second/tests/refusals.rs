@@ -123,11 +123,55 @@ fn refusals_15_and_16_of_a_train() {
     register.refuse(15, Entry::train(A, 95, 1, 0, 8));
     let mut register = a_holds_two();
     register.refuse(16, Entry::train(A, 95, 1, 0, 4));
-    register.refuse(16, Entry::train(A, 95, 1, 0, 3));
-    register.refuse(16, Entry::train(A, 95, 1, 0, 1));
     register.accept(Entry::train(A, 95, 1, 8, 0));
     register.refuse(16, Entry::train(A, 125, 1, 0, 4));
     register.accept(Entry::train(A, 125, 1, 0, 3));
+    // By T-02 the first of the two may carry the grant; then none is left to give.
+    let mut register = a_holds_two();
+    register.accept(Entry::train(A, 95, 1, 8, 3));
+    register.refuse(16, Entry::train(A, 125, 1, 0, 1));
+    register.accept(Entry::train(A, 125, 1, 0, 0));
+}
+
+/// No log leads to a station that holds, owes and is asked at once, but a
+/// section can be well made so.
+#[test]
+fn refusal_16_of_a_train_while_its_station_owes() {
+    for owes in [1, 8] {
+        for holds in [1, 2, 8] {
+            let mut register = a_holds_two();
+            let desk = register.section.desk_mut(A);
+            (desk.holds, desk.owes) = (holds, owes);
+            for granted in [1, 3, 4] {
+                register.refuse(16, Entry::train(A, 95, 1, 8, granted));
+            }
+            register.section.desk_mut(A).sent = 12;
+            register.refuse(16, Entry::train(A, 95, 1, 8, 1));
+            register.section.desk_mut(A).sent = 0;
+            register.accept(Entry::train(A, 95, 1, 8, 0));
+        }
+    }
+}
+
+#[test]
+fn no_refusal_reads_what_waits() {
+    let waits = |mut register: Register| {
+        for station in Station::BOTH {
+            register.section.desk_mut(station).waiting = 8;
+        }
+        register
+    };
+    let mut register = waits(Register::begun());
+    register.refuse(15, Entry::train(A, 0, 1, 0, 0));
+    register.refuse(14, Entry::send_back(A, 0, 0, 0));
+    register.accept(Entry::open(A, 0, 1, 1, 1));
+    register.accept(Entry::through(B, 0, 1));
+    register.accept(Entry::meet(A, A, 1));
+    let mut register = waits(guest_at_b());
+    register.accept(Entry::send_back(B, 75, 0, 4));
+    let mut register = waits(a_holds_two());
+    register.accept(Entry::train(A, 95, 1, 0, 3));
+    waits(Register::begun()).accept(Entry::resume());
 }
 
 #[test]

@@ -4,7 +4,7 @@
 use std::process::{Command, Output};
 
 use second::walk::{walk, walk_with};
-use second::{decode, step_in_place, Answer, Kind, Section, Station};
+use second::{decode, step_in_place, Answer, Kind, Section, Speed, Station};
 
 #[test]
 fn the_claims_hold_on_a_share_of_the_walks() {
@@ -13,8 +13,11 @@ fn the_claims_hold_on_a_share_of_the_walks() {
         assert_eq!(tally.states, 4_000);
         assert!(tally.opposed_pairs > 10_000, "{tally}");
         assert!(tally.owing_states > 500, "{tally}");
+        assert!(tally.waiting_states > 100, "{tally}");
         assert!(tally.swaps > 300, "{tally}");
         assert!(tally.rerun > 10 * tally.swaps, "{tally}");
+        assert!(tally.compared_states > 1_000, "{tally}");
+        assert!(tally.compared_lists > 3, "{tally}");
         assert_eq!(tally.most_vehicles, 24, "{tally}");
     }
 }
@@ -123,6 +126,40 @@ fn a_meeting_counted_for_its_station_is_caught() {
     };
     let message = walk_with(&stepper, 1, 20_000).expect_err("the slip is to be caught");
     is_caught_as(&message.0, "counted");
+}
+
+#[test]
+fn a_grant_added_to_what_waits_is_caught() {
+    let message = walk_with_slip(|section, kind, station| {
+        let desk = section.desk_mut(station);
+        if kind == Kind::Receive && desk.waiting > 0 {
+            desk.waiting = (desk.waiting + 1).min(8);
+        }
+    });
+    is_caught_as(&message, "owes");
+}
+
+#[test]
+fn a_guest_of_another_class_than_before_is_caught() {
+    // Demand 3 does not speak of classes.
+    let message = walk_with_slip(|section, _, station| {
+        let desk = section.desk_mut(station);
+        desk.guest = desk.guest.min(4);
+    });
+    is_caught_as(&message, "not as before");
+}
+
+#[test]
+fn another_speed_than_before_is_caught() {
+    let stepper = |section: &mut Section, bytes: &[u8]| -> Answer {
+        let mut answer = step_in_place(section, bytes)?;
+        if answer.speed == Speed::Limit(25) {
+            answer.speed = Speed::Booked;
+        }
+        Ok(answer)
+    };
+    let message = walk_with(&stepper, 1, 20_000).expect_err("the slip is to be caught");
+    is_caught_as(&message.0, "not as before");
 }
 
 #[test]

@@ -40,6 +40,7 @@ fn with_vehicles(vehicles: &[Vehicle]) -> Section {
             asked: 8,
             holds: 8,
             owes: 8,
+            waiting: 8,
         };
     }
     section
@@ -100,6 +101,24 @@ fn desk_figures_keep_their_ranges() {
         alter(false, |section| section.desks[place].holds = 9);
         alter(false, |section| section.desks[place].owes = 9);
         alter(false, |section| section.desks[place].owes = u8::MAX);
+        alter(false, |section| section.desks[place].waiting = 9);
+        alter(false, |section| section.desks[place].waiting = u8::MAX);
+    }
+}
+
+/// From the fresh section on, clears wait only while the station owes and holds
+/// none, but the document does not ask for it.
+#[test]
+fn line_clears_may_wait_whatever_else_the_desk_has() {
+    for place in [0, 1] {
+        for waiting in 0..=8 {
+            for (holds, owes) in [(0, 0), (8, 0), (0, 8), (8, 8)] {
+                alter(true, |section| {
+                    let desk = &mut section.desks[place];
+                    (desk.holds, desk.owes, desk.waiting) = (holds, owes, waiting);
+                });
+            }
+        }
     }
 }
 
@@ -242,12 +261,14 @@ fn not_in_force_all_but_the_counts_is_fresh() {
         ..Section::fresh()
     };
     is_well_made(&fresh);
-    let alterations: [fn(&mut Section); 7] = [
+    let alterations: [fn(&mut Section); 9] = [
         |section| section.desks[0].clock = 1,
         |section| section.desks[1].last_form = 1,
         |section| section.desks[0].interval = Some(0),
         |section| section.desks[1].out = true,
         |section| section.desks[0].owes = 1,
+        |section| section.desks[0].waiting = 1,
+        |section| section.desks[1].waiting = 1,
         |section| section.places[23].granted = 1,
         |section| section.present = 1,
     ];

@@ -272,12 +272,13 @@ fn refused_throughout() -> Vec<Entry> {
         Entry::open(A, 95, 1, 1, 1),
         Entry::through(A, 95, 1),
         Entry::send_back(A, 95, 0, 0),
-        Entry::train(A, 95, 1, 0, 1),
-        Entry::train(A, 95, 1, 0, 0),
+        Entry::train(A, 95, 1, 0, 4),
+        // The reply goes ahead, and with the last train there is none to give.
+        Entry::train(A, 95, 1, 0, 2),
         Entry::train(A, 124, 1, 0, 0),
         Entry::receive(A, 124, A, 2),
-        Entry::train(A, 125, 1, 0, 4),
-        Entry::train(A, 125, 1, 0, 3),
+        Entry::train(A, 125, 1, 0, 1),
+        Entry::train(A, 125, 1, 0, 0),
         Entry::train(A, 155, 1, 0, 0),
         Entry::resume(),
     ]);

@@ -115,6 +115,7 @@ pub(super) fn working() -> Section {
         asked: 4,
         holds: 5,
         owes: 2,
+        waiting: 6,
     }; 2];
     section
 }
@@ -499,6 +500,7 @@ fn crammed() -> Section {
         asked: 8,
         holds: 8,
         owes: 8,
+        waiting: 8,
     }; 2];
     section
 }
@@ -623,13 +625,12 @@ fn desk_at_its_limits(station: Station) -> Vec<Handed> {
     let held = Desk {
         asked: 8,
         holds: 1,
-        owes: 8,
         sent: 1,
         ..desk
     };
     at(held, Entry::train(station, 0, 1, 8, 8));
     at(Desk { asked: 7, ..held }, Entry::train(station, 0, 1, 0, 8));
-    at(Desk { holds: 2, ..held }, Entry::train(station, 0, 1, 0, 1));
+    at(Desk { owes: 8, ..held }, Entry::train(station, 0, 1, 0, 1));
     // 10, 11, 12 and 13, each barred by all that follow as well.
     let barred = Desk {
         out: true,
@@ -739,6 +740,7 @@ fn one_vehicle(vehicle: Vehicle, station: Station, change: impl Fn(&mut Desk)) -
             asked: 3,
             holds: 5,
             owes: 6,
+            waiting: 7,
         };
     }
     change(section.desk_mut(station));
@@ -967,6 +969,7 @@ fn outcome(section: &Section, bytes: &[u8]) -> Outcome {
 #[cfg(test)]
 mod tests {
     use super::*;
+    use crate::edition::Edition;
     use crate::step::enter;
 
     #[test]
@@ -976,7 +979,7 @@ mod tests {
             let answer = step(&section, &bytes);
             assert_eq!(answer, (Err(Refusal::IllMade), section.clone()));
             let entry = decode(&bytes).unwrap();
-            let answer = enter(&mut section.clone(), &entry);
+            let answer = enter(Edition::Today, &mut section.clone(), &entry);
             assert!(answer.is_ok(), "{answer:?} {entry:?} {section:?}");
         }
     }
@@ -998,7 +1001,7 @@ mod tests {
                 (Err(Refusal::IllMade), section.clone())
             );
             let read = decode(&bytes);
-            let answer = read.and_then(|entry| enter(&mut section.clone(), &entry));
+            let answer = read.and_then(|entry| enter(Edition::Today, &mut section.clone(), &entry));
             else_refused.push(answer.unwrap_err().number());
         }
         let in_force = [1, 1, 2, 3, 4, 8];

@@ -1,0 +1,130 @@
+//! The two editions of the step, and the places where they differ.
+//!
+//! Request T-02 promises that lists once accepted throughout are answered as
+//! before. To hold the step to that, document 01's own step is kept beside
+//! today's. Only tests and walks use it.
+
+use crate::section::{Desk, Vehicle};
+
+/// By which document a step answers.
+#[derive(Clone, Copy, Debug, Default, PartialEq, Eq, Hash)]
+pub enum Edition {
+    /// Document 01 with request T-01 and without T-02. Its section has no line
+    /// clears waiting: from the fresh section on, that figure stays 0.
+    Document01,
+    /// Document 01 with requests T-01 and T-02.
+    #[default]
+    Today,
+}
+
+impl Edition {
+    /// Whether a TRAIN that leaves this desk may carry a grant, however small.
+    pub(crate) fn lets_a_train_grant(self, desk: &Desk) -> bool {
+        match self {
+            // Only the last of a series, which leaves no line clear held.
+            Edition::Document01 => desk.holds <= 1,
+            Edition::Today => desk.owes == 0,
+        }
+    }
+
+    /// What a receipt does with line clears, once it has altered all else at the
+    /// desk: what the desk owes after it decides.
+    pub(crate) fn take_line_clears(self, desk: &mut Desk, vehicle: &Vehicle) {
+        match self {
+            Edition::Document01 => {
+                if !vehicle.left_without_line_clear() {
+                    desk.holds = vehicle.granted;
+                }
+            }
+            Edition::Today => {
+                if vehicle.granted > 0 {
+                    desk.waiting = vehicle.granted;
+                }
+                if desk.owes == 0 && desk.waiting > 0 {
+                    desk.holds = desk.waiting;
+                    desk.waiting = 0;
+                }
+            }
+        }
+    }
+}
+
+#[cfg(test)]
+mod tests {
+    use super::*;
+    use crate::entry::Kind;
+
+    /// Holds, owes and waiting after line clears were taken.
+    fn taken(edition: Edition, kind: Kind, granted: u8, before: [u8; 3]) -> [u8; 3] {
+        let [holds, owes, waiting] = before;
+        let mut desk = Desk {
+            holds,
+            owes,
+            waiting,
+            ..Desk::default()
+        };
+        let vehicle = Vehicle {
+            left_on: Some(kind),
+            granted,
+            ..Vehicle::default()
+        };
+        edition.take_line_clears(&mut desk, &vehicle);
+        [desk.holds, desk.owes, desk.waiting]
+    }
+
+    #[test]
+    fn document_01_sets_holds_to_granted_on_a_line_clear_only() {
+        for kind in [Kind::Return, Kind::Train] {
+            for owes in [0, 1] {
+                let taken = |granted| taken(Edition::Document01, kind, granted, [5, owes, 0]);
+                assert_eq!(taken(0), [0, owes, 0]);
+                assert_eq!(taken(3), [3, owes, 0]);
+            }
+        }
+        for kind in [Kind::Open, Kind::Through] {
+            let taken = taken(Edition::Document01, kind, 0, [5, 0, 0]);
+            assert_eq!(taken, [5, 0, 0]);
+        }
+    }
+
+    #[test]
+    fn today_a_grant_replaces_what_waits_and_moves_where_none_is_owed() {
+        for kind in [Kind::Return, Kind::Train] {
+            let taken = |granted, before| taken(Edition::Today, kind, granted, before);
+            assert_eq!(taken(3, [5, 1, 0]), [5, 1, 3]);
+            assert_eq!(taken(3, [5, 1, 4]), [5, 1, 3]);
+            assert_eq!(taken(3, [5, 0, 0]), [3, 0, 0]);
+            assert_eq!(taken(3, [5, 0, 4]), [3, 0, 0]);
+        }
+    }
+
+    #[test]
+    fn today_a_receipt_without_a_grant_moves_what_waits_or_nothing() {
+        for kind in [Kind::Open, Kind::Through, Kind::Return, Kind::Train] {
+            let taken = |before| taken(Edition::Today, kind, 0, before);
+            assert_eq!(taken([5, 0, 0]), [5, 0, 0]);
+            assert_eq!(taken([5, 1, 0]), [5, 1, 0]);
+            assert_eq!(taken([5, 1, 4]), [5, 1, 4]);
+            assert_eq!(taken([5, 0, 4]), [4, 0, 0]);
+        }
+    }
+
+    #[test]
+    fn a_train_may_grant_by_what_is_held_or_by_what_is_owed() {
+        let desk = |holds, owes| Desk {
+            holds,
+            owes,
+            ..Desk::default()
+        };
+        for (holds, owes, document_01, today) in [
+            (1, 0, true, true),
+            (1, 1, true, false),
+            (2, 0, false, true),
+            (2, 1, false, false),
+        ] {
+            let desk = desk(holds, owes);
+            assert_eq!(Edition::Document01.lets_a_train_grant(&desk), document_01);
+            assert_eq!(Edition::Today.lets_a_train_grant(&desk), today);
+        }
+    }
+}

@@ -5,7 +5,7 @@ use Rattle.working.proofs.Computing.{turns-compute}
 use Rattle.working.specs.Sections.{fresh}
 use Rattle.working.specs.Turns.{answersIn, turnsOf}
 use Rattle.working.specs.declared.Answer.the-variants.{Accepted, Refused}
-use Rattle.working.specs.declared.Refusal.the-variants.{AlreadyInForce, BeforeClock, EndsInside, MayNotMeet, NoGuest, NoLineClear, NotInForce, NotNearest, OpenerAway, UnknownKind, WrongMap}
+use Rattle.working.specs.declared.Refusal.the-variants.{AlreadyInForce, BeforeClock, EndsInside, HoldsLineClear, MayNotMeet, NoGuest, NoLineClear, NotInForce, NotNearest, OpenerAway, OutOfRange, UnknownKind, WrongMap}
 use Rattle.working.specs.declared.Speed.the-variants.{Booked, Kmh, NoSpeed, Walking}
 use mathlib.Core.List.{List, [], _∷_}
 use mathlib.Core.Path.{_≡_, refl}
@@ -82,21 +82,21 @@ answers-21 = refl
 abbrev log-34 : List ℕ
 log-34 =
     1 ∷ 1 ∷ 63 ∷ 2 ∷ 2 ∷ 0 ∷ 7 ∷ 2 ∷ 3 ∷ 7 ∷ 135 ∷ 6 ∷ 1 ∷ 0 ∷ 0 ∷ 2 ∷ 0 ∷ 1 ∷ 0 ∷ 71 ∷ 4 ∷ 1 ∷ 0 ∷ 0
-    ∷ 7 ∷ 135 ∷ 6 ∷ 2 ∷ 0 ∷ 10 ∷ 1 ∷ 0 ∷ 1 ∷ 15 ∷ 5 ∷ 2 ∷ 0 ∷ 10 ∷ 1 ∷ 1 ∷ 1 ∷ 15 ∷ 5 ∷ 2 ∷ 0 ∷ 40 ∷ 3 ∷ 135
-    ∷ 6 ∷ 1 ∷ 0 ∷ 0 ∷ 2 ∷ 0 ∷ 2 ∷ 135 ∷ 6 ∷ 1 ∷ 0 ∷ 4 ∷ 2 ∷ 0 ∷ 3 ∷ 47 ∷ 5 ∷ 2 ∷ 0 ∷ 78 ∷ 2 ∷ 8 ∷ 47 ∷ 5
-    ∷ 1 ∷ 0 ∷ 108 ∷ 2 ∷ 8 ∷ 47 ∷ 5 ∷ 2 ∷ 0 ∷ 108 ∷ 3 ∷ 8 ∷ 135 ∷ 6 ∷ 1 ∷ 0 ∷ 7 ∷ 2 ∷ 0 ∷ 4 ∷ 135 ∷ 6 ∷ 1 ∷ 0
-    ∷ 7 ∷ 2 ∷ 0 ∷ 5 ∷ 15 ∷ 5 ∷ 2 ∷ 0 ∷ 139 ∷ 2 ∷ 135 ∷ 6 ∷ 1 ∷ 0 ∷ 7 ∷ 2 ∷ 0 ∷ 6 ∷ 15 ∷ 5 ∷ 2 ∷ 2 ∷ 10 ∷ 3
-    ∷ 47 ∷ 5 ∷ 2 ∷ 2 ∷ 40 ∷ 1 ∷ 3 ∷ 135 ∷ 6 ∷ 1 ∷ 0 ∷ 7 ∷ 2 ∷ 0 ∷ 7 ∷ 135 ∷ 6 ∷ 1 ∷ 0 ∷ 14 ∷ 2 ∷ 0 ∷ 8 ∷ 63
-    ∷ 2 ∷ 1 ∷ 0 ∷ 16 ∷ 2 ∷ 1 ∷ 5 ∷ 135 ∷ 6 ∷ 2 ∷ 2 ∷ 40 ∷ 1 ∷ 0 ∷ 2 ∷ 71 ∷ 4 ∷ 2 ∷ 2 ∷ 40 ∷ 5 ∷ 135 ∷ 6 ∷ 1
-    ∷ 0 ∷ 16
+    ∷ 7 ∷ 135 ∷ 6 ∷ 2 ∷ 0 ∷ 10 ∷ 1 ∷ 0 ∷ 1 ∷ 47 ∷ 5 ∷ 2 ∷ 0 ∷ 10 ∷ 2 ∷ 8 ∷ 15 ∷ 5 ∷ 2 ∷ 0 ∷ 44 ∷ 4 ∷ 135 ∷ 6
+    ∷ 1 ∷ 0 ∷ 4 ∷ 2 ∷ 0 ∷ 2 ∷ 47 ∷ 5 ∷ 2 ∷ 0 ∷ 40 ∷ 2 ∷ 8 ∷ 135 ∷ 6 ∷ 1 ∷ 0 ∷ 4 ∷ 2 ∷ 0 ∷ 3 ∷ 15 ∷ 5 ∷ 2
+    ∷ 0 ∷ 71 ∷ 1 ∷ 135 ∷ 6 ∷ 1 ∷ 0 ∷ 4 ∷ 2 ∷ 0 ∷ 4 ∷ 47 ∷ 5 ∷ 2 ∷ 0 ∷ 70 ∷ 2 ∷ 2 ∷ 47 ∷ 5 ∷ 2 ∷ 0 ∷ 101 ∷ 1
+    ∷ 5 ∷ 135 ∷ 6 ∷ 2 ∷ 0 ∷ 7 ∷ 2 ∷ 0 ∷ 5 ∷ 135 ∷ 6 ∷ 1 ∷ 0 ∷ 4 ∷ 2 ∷ 0 ∷ 5 ∷ 15 ∷ 5 ∷ 2 ∷ 0 ∷ 131 ∷ 1 ∷ 47
+    ∷ 5 ∷ 2 ∷ 0 ∷ 161 ∷ 3 ∷ 2 ∷ 135 ∷ 6 ∷ 1 ∷ 0 ∷ 6 ∷ 2 ∷ 0 ∷ 6 ∷ 135 ∷ 6 ∷ 1 ∷ 0 ∷ 12 ∷ 2 ∷ 0 ∷ 7 ∷ 39 ∷ 4
+    ∷ 2 ∷ 0 ∷ 196 ∷ 2 ∷ 15 ∷ 5 ∷ 2 ∷ 0 ∷ 191 ∷ 2 ∷ 135 ∷ 6 ∷ 1 ∷ 0 ∷ 19 ∷ 2 ∷ 0 ∷ 8 ∷ 63 ∷ 2 ∷ 2 ∷ 0 ∷ 228 ∷ 3
+    ∷ 4 ∷ 8 ∷ 63
     ∷ []
 
 answers-34 : answersIn (turnsOf fresh log-34) ≡
     Accepted 0 0 NoSpeed ∷ Accepted 1 7 (Kmh 10) ∷ Accepted 0 0 NoSpeed ∷ Refused UnknownKind ∷ Accepted 1 172 Booked
-    ∷ Accepted 0 0 NoSpeed ∷ Accepted 2 176 Booked ∷ Refused AlreadyInForce ∷ Accepted 3 112 (Kmh 10) ∷ Accepted 0 0 NoSpeed
-    ∷ Accepted 0 0 NoSpeed ∷ Accepted 4 114 (Kmh 10) ∷ Refused NoLineClear ∷ Accepted 5 114 (Kmh 10) ∷ Accepted 0 0 NoSpeed
-    ∷ Accepted 0 0 NoSpeed ∷ Accepted 6 112 (Kmh 10) ∷ Accepted 0 0 NoSpeed ∷ Accepted 7 112 (Kmh 10) ∷ Accepted 8 114 (Kmh 25)
-    ∷ Accepted 0 0 NoSpeed ∷ Accepted 0 0 NoSpeed ∷ Accepted 2 7 (Kmh 10) ∷ Accepted 0 0 NoSpeed ∷ Accepted 9 180 Booked
+    ∷ Accepted 0 0 NoSpeed ∷ Accepted 2 178 Booked ∷ Refused OutOfRange ∷ Accepted 0 0 NoSpeed ∷ Accepted 3 114 (Kmh 10)
+    ∷ Accepted 0 0 NoSpeed ∷ Accepted 4 112 (Kmh 25) ∷ Accepted 0 0 NoSpeed ∷ Refused BeforeClock ∷ Accepted 5 114 (Kmh 25)
+    ∷ Refused BeforeClock ∷ Accepted 0 0 NoSpeed ∷ Accepted 6 112 (Kmh 25) ∷ Accepted 7 114 (Kmh 10) ∷ Accepted 0 0 NoSpeed
+    ∷ Accepted 0 0 NoSpeed ∷ Refused HoldsLineClear ∷ Accepted 8 112 (Kmh 10) ∷ Accepted 0 0 NoSpeed ∷ Accepted 9 7 Walking
     ∷ Refused EndsInside
     ∷ []
 unfolding turns-compute

@@ -45,6 +45,15 @@ use native.Mathlib.Omega.{arith}
 pub desk-is : {w w₁ : List ℕ} (x : Station) {d e : Desk} → d ≡ e → Becomes w w₁ (withDesk (sectionIn w) x d) (startIn w) → Becomes w w₁ (withDesk (sectionIn w) x e) (startIn w)
 desk-is {w} x same b = becomes-as b (ap (withDesk (sectionIn w) x) same) refl
 
+-- a desk that is left as it was
+pub desk-stays : {w : List ℕ} (x : Station) {d : Desk} → d ≡ deskOf (sectionIn w) x → Becomes w w (withDesk (sectionIn w) x d) (startIn w)
+desk-stays {w} x same =
+    becomes-as (record { section = refl; start = refl; own = λ few own. own }) (sym (ap (withDesk (sectionIn w) x) same ∙ by (sectionIn w) x)) refl
+  where
+    by : (s : Section) (x : Station) → withDesk s x (deskOf s x) ≡ s
+    by s A = refl
+    by s B = refl
+
 vehicles-desk : (s : Section) (l : List Vehicle) (x : Station) → deskOf (withVehicles s l) x ≡ deskOf s x
 vehicles-desk s l A = refl
 vehicles-desk s l B = refl

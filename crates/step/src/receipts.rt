@@ -2,7 +2,7 @@
 ghost use Rattle.step.specs.Entering.{Enters};
 ghost use Rattle.words.specs.Words.{DeskBecomes, sectionIn};
 ghost use Rattle.working.specs.Acts as acts;
-ghost use Rattle.working.specs.Effects.{arriveDesk, otherDesk, ownDesk, replied};
+ghost use Rattle.working.specs.Effects.{arriveDesk, otherDesk, ownDesk, replied, takenDesk};
 ghost use Rattle.working.specs.Events.{At, stationOf};
 ghost use Rattle.working.specs.WellMade.{isOpener};
 ghost use Rattle.working.specs.Reasons.{mayEnter};
@@ -83,7 +83,20 @@ fn arrive_other(words: &mut Words, at: Station, time: u16, d: Desk, v: Vehicle)
     }
 }
 
-// The reply that the vehicle brings, and what waits: the desk is left alone where it brings none and nothing waits.
+// The desk of station `at`, which is `d`, where a vehicle that may enter is taken, but for the reply that it brings.
+fn take_in(words: &mut Words, at: Station, time: u16, d: Desk, v: Vehicle)
+    requires { ⌜ (d ≡ deskOf (sectionIn (now words)) at) × (mayEnter at v ≡ true) ⌝ }
+    ensures { λ _. ⌜ DeskBecomes (now (words .entry)) (now (words .exit)) at (λ desk. takenDesk at desk time v) ⌝ }
+{
+    let movement = v.movement;
+    if v.sender == station_number(at) {
+        arrive_own(words, at, time, d, movement);
+    } else {
+        arrive_other(words, at, time, d, v);
+    }
+}
+
+// The reply that a vehicle brings, and what waits: the desk is left alone where it brings none and nothing waits.
 fn put_reply(words: &mut Words, at: Station, granted: u8)
     ensures { λ _. ⌜ DeskBecomes (now (words .entry)) (now (words .exit)) at (replied granted) ⌝ }
 {
@@ -100,11 +113,7 @@ fn arrive(words: &mut Words, at: Station, time: u16, d: Desk, v: Vehicle)
     ensures { λ _. ⌜ DeskBecomes (now (words .entry)) (now (words .exit)) at (λ desk. arriveDesk at desk time v) ⌝ }
 {
     let movement = v.movement;
-    if v.sender == station_number(at) {
-        arrive_own(words, at, time, d, movement);
-    } else {
-        arrive_other(words, at, time, d, v);
-    }
+    take_in(words, at, time, d, v);
     put_reply(words, at, granted_in(movement));
 }
 

@@ -6,7 +6,7 @@ use Rattle.working.proofs.Invariant.{Halves, kept-far, kept-guest, kept
 use Rattle.working.proofs.Tests.{both, either-most}
 use Rattle.working.specs.Effects.{arriveDesk, grantedIn, ifAny, otherDesk, ownDesk, replied}
 use Rattle.working.specs.Reasons.{mayEnter}
-use Rattle.working.specs.Sections.{numberAt, withFigures}
+use Rattle.working.specs.Sections.{numberAt, withClears, withFigures}
 use Rattle.working.specs.WellMade.{isFrom, isOpener, notLater}
 use Rattle.working.specs.declared.Clears.{Clears}
 use Rattle.working.specs.declared.Desk.{Desk}
@@ -90,6 +90,18 @@ keeps-far d o t class (Open a) l made h = kept-guest d o t class a l h (made .le
 keeps-far d o t class Through l made h = kept-far d o t class Through l h refl
 keeps-far d o t class (Return a g) l made h = kept-far d o t class (Return a g) l h refl
 keeps-far d o t class (Train a g) l made h = kept-far d o t class (Train a g) l h refl
+
+-- where a vehicle brings no reply and nothing waits, a receipt has nothing more to do
+pub nothing-replied : (granted : ℕ) (d : Desk) → granted ≡ 0 → d .clears .waiting ≡ 0 → replied granted d ≡ d
+nothing-replied granted d none empty = by (eqb (d .clears .owes) 0)
+  where
+    waits : ifAny granted (d .clears .waiting) ≡ 0
+    waits = rw (none, empty)
+
+    by : (b : Bool)
+        → withClears (record { asked = d .clears .asked; holds = cond b (ifAny (ifAny granted (d .clears .waiting)) (d .clears .holds)) (d .clears .holds); owes = d .clears .owes; waiting = cond b 0 (ifAny granted (d .clears .waiting)) }) d ≡ d
+    by true = rw (waits, ← empty)
+    by false = rw (waits, ← empty)
 
 -- ---- whose it is
 

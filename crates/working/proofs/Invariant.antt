@@ -255,7 +255,7 @@ row-last : (l : List Movement) (m : Movement) → Every (λ n. Ahead n m) l → 
 row-last [] m h = refl
 row-last (n ∷ l) m h = last-cons n l (h .0 .return) ∙ row-last l m (h .1)
 
-or-else : (g o : ℕ) → o ≡ 0 → ifAny g o ≡ g
+pub or-else : (g o : ℕ) → o ≡ 0 → ifAny g o ≡ g
 or-else g o e = by (ltb 0 g) refl
   where
     by : (b : Bool) → ltb 0 g ≡ b → cond b g o ≡ g
@@ -364,12 +364,12 @@ kept-train d o t a g mine theirs h p =
 -- ---- receipts
 
 -- the station held nothing: what waited after the reply is then held, where it owes nothing more, and else goes on waiting
-record Released (c r : Clears) : Type 0 where
-  sum : r .holds + r .waiting ≡ c .waiting
-  holding : 0 < r .holds → (r .owes ≡ 0) × (r .waiting ≡ 0)
-  waits : 0 < r .waiting → (0 < r .owes) × (r .holds ≡ 0)
+pub record Released (c r : Clears) : Type 0 where
+  pub sum : r .holds + r .waiting ≡ c .waiting
+  pub holding : 0 < r .holds → (r .owes ≡ 0) × (r .waiting ≡ 0)
+  pub waits : 0 < r .waiting → (0 < r .owes) × (r .holds ≡ 0)
 
-released : (c : Clears) → c .holds ≡ 0 → Released c (releasedClears c)
+pub released : (c : Clears) → c .holds ≡ 0 → Released c (releasedClears c)
 released c none = by (eqb (c .owes) 0) refl
   where
     by : (b : Bool) → eqb (c .owes) 0 ≡ b
@@ -424,16 +424,16 @@ module _ (d o : Desk) (m : Movement) (l : List Movement) (h : Halves d o [] (l +
   their-guest : o .guest ≡ 0
   their-guest = zero-unless (o .guest) (λ some. snoc-nil l m (h .far .guests some .none))
 
-  far-holds : d .clears .holds ≡ 0
+  pub far-holds : d .clears .holds ≡ 0
   far-holds = zero-unless (d .clears .holds) (λ some. snoc-nil l m (h .own .holding some .none-far))
 
   their-waits : o .clears .waiting ≡ 0
   their-waits = zero-unless (o .clears .waiting) (λ some. snoc-nil l m (h .far .waits some .none))
 
-  own-sum : d .clears .owes ≡ o .clears .holds + (trains l + trainOne m)
+  pub own-sum : d .clears .owes ≡ o .clears .holds + (trains l + trainOne m)
   own-sum = omega (arith, h .own .sum, weigh-snoc trainOne l m, their-waits)
 
-  far-sum : o .clears .owes ≡ d .clears .waiting + (granted l + grantedIn m)
+  pub far-sum : o .clears .owes ≡ d .clears .waiting + (granted l + grantedIn m)
   far-sum = omega (arith, h .far .sum, weigh-snoc grantedIn l m, far-holds)
 
   far-row : InRow l × Every (λ n. Ahead n m) l
@@ -486,31 +486,41 @@ kept-guest d o t class a l h guest =
           (far-row d o m l h .0) (no-far refl);
     }
 
--- any other goes on, or comes with a grant: the desk e that it leaves, before the reply is read
+-- the line clears that it leaves, before its reply is read
+pub record Brings (c : Clears) (m : Movement) (e : Clears) : Type 0 where
+  pub holds : e .holds ≡ c .holds
+  pub owes : e .owes ≡ c .owes - trainOne m
+  pub waiting : e .waiting ≡ c .waiting
+
+pub brings : (d : Desk) (t class : ℕ) (m : Movement) → Brings (d .clears) m (otherDesk d t class m .clears)
+brings d t class (Open a) = record { holds = refl; owes = omega arith; waiting = refl }
+brings d t class Through = record { holds = refl; owes = omega arith; waiting = refl }
+brings d t class (Return a g) = record { holds = refl; owes = omega arith; waiting = refl }
+brings d t class (Train a g) = record { holds = refl; owes = refl; waiting = refl }
+
+-- any but an OPEN goes on, or comes with a grant: out and guest of the desk e that it leaves
 record Comes (d : Desk) (m : Movement) (e : Desk) : Type 0 where
   out : e .out ≡ cond (isReturn m) false (d .out)
-  holds : e .clears .holds ≡ d .clears .holds
-  owes : e .clears .owes ≡ d .clears .owes - trainOne m
-  waiting : e .clears .waiting ≡ d .clears .waiting
   guest : e .guest ≡ d .guest
 
 comes : (d : Desk) (t class : ℕ) (m : Movement) → isOpen m ≡ false → Comes d m (otherDesk d t class m)
 comes d t class (Open a) n = absurd (true≢false n)
-comes d t class Through n = record { out = refl; holds = refl; owes = omega arith; waiting = refl; guest = refl }
-comes d t class (Return a g) n = record { out = refl; holds = refl; owes = omega arith; waiting = refl; guest = refl }
-comes d t class (Train a g) n = record { out = refl; holds = refl; owes = refl; waiting = refl; guest = refl }
+comes d t class Through n = record { out = refl; guest = refl }
+comes d t class (Return a g) n = record { out = refl; guest = refl }
+comes d t class (Train a g) n = record { out = refl; guest = refl }
 
 pub kept-far : (d o : Desk) (t class : ℕ) (m : Movement) (l : List Movement) → Halves d o [] (l ++ m ∷ []) → isOpen m ≡ false
     → Halves (replied (grantedIn m) (otherDesk d t class m)) o [] l
 kept-far d o t class m l h n =
     let e = otherDesk d t class m in
     let k = comes d t class m n in
+    let b = brings d t class m in
     let last = row-last l m (far-row d o m l h .1) in
     let own = own-sum d o m l h in
     let far = far-sum d o m l h in
     let now = now-waits d o m l h in
-    let after = released (repliedClears (e .clears) (grantedIn m)) (k .holds ∙ far-holds d o m l h) in
-    let waited : ifAny (grantedIn m) (e .clears .waiting) ≡ d .clears .waiting + grantedIn m = ap (ifAny (grantedIn m)) (k .waiting) ∙ now in
+    let after = released (repliedClears (e .clears) (grantedIn m)) (b .holds ∙ far-holds d o m l h) in
+    let waited : ifAny (grantedIn m) (e .clears .waiting) ≡ d .clears .waiting + grantedIn m = ap (ifAny (grantedIn m)) (b .waiting) ∙ now in
     record {
       own = record {
         sum = omega (arith, their-waits d o m l h);

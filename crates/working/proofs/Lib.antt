@@ -26,6 +26,7 @@ pub mod Meeting
 pub mod Moved
 pub mod Opposed
 pub mod OwnBytes
+pub mod Plain
 pub mod Plans
 pub mod Ranges
 pub mod ReadAgain

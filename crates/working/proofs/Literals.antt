@@ -83,9 +83,6 @@ withSent n d = withEntered (d .clock) (d .last) n (d .interval) d
 abbrev pub withAsked : ℕ → Desk → Desk
 withAsked n d = withClears (record { asked = n; holds = d .clears .holds; owes = d .clears .owes; waiting = d .clears .waiting }) d
 
-abbrev pub withHolds : ℕ → Desk → Desk
-withHolds n d = withClears (record { asked = d .clears .asked; holds = n; owes = d .clears .owes; waiting = d .clears .waiting }) d
-
 abbrev pub withOwes : ℕ → Desk → Desk
 withOwes n d = withClears (record { asked = d .clears .asked; holds = d .clears .holds; owes = n; waiting = d .clears .waiting }) d
 

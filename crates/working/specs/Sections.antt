@@ -81,6 +81,9 @@ withGuest guest d = withFigures (d .clock) (d .last) (d .sent) (d .interval) (d 
 abbrev pub withClears : Clears → Desk → Desk
 withClears clears d = withFigures (d .clock) (d .last) (d .sent) (d .interval) (d .out) (d .guest) clears d
 
+abbrev pub withHolds : ℕ → Desk → Desk
+withHolds holds d = withClears (record { asked = d .clears .asked; holds = holds; owes = d .clears .owes; waiting = d .clears .waiting }) d
+
 abbrev pub deskOf : Section → Station → Desk
 deskOf s A = s .a
 deskOf s B = s .b

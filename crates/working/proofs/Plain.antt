@@ -1,0 +1,94 @@
+-- What stands beside the invariant in a list of which document 01's own step refuses none: nothing waits, a desk that holds a line clear owes none, and no vehicle
+-- grants any but the one nearest its sender. So whoever receives a grant owes nothing after it, and holds it at once, as in document 01.
+-- Assumes nothing.
+use Prim.Native.Nat.{_<_, _≤_, ℕ}
+use Rattle.working.proofs.Invariant.{Brings, Halves, brings, far-holds, far-sum, granted, or-else, own-sum, released, trainOne, trains, weigh-snoc}
+use Rattle.working.proofs.Reasons.{OpenPasses, ReturnPasses, TrainPasses}
+use Rattle.working.proofs.Tests.{zero-unless}
+use Rattle.working.specs.Acts as acts
+use Rattle.working.specs.Acts.{Act}
+use Rattle.working.specs.Effects.{departed, grantedIn, otherDesk, replied, repliedClears, releasedClears, returnDesk, trainDesk}
+use Rattle.working.specs.Sections.{withOut}
+use Rattle.working.specs.declared.Desk.{Desk}
+use Rattle.working.specs.declared.Movement.the-variants.{Return, Train}
+use Rattle.working.specs.declared.Movement.{Movement}
+use lib.ListN.{drop}
+use mathlib.Core.Bool.{Bool}
+use mathlib.Core.List.{List, [], _++_, _∷_}
+use mathlib.Core.Path.{_∙_, _≡_, ap, refl}
+use native.Mathlib.Omega.{arith}
+
+-- a station's desk d, and what its vehicles left on, nearest it first
+pub record Plain (d : Desk) (mine : List Movement) : Type 0 where
+  pub waiting : d .clears .waiting ≡ 0
+  pub owes : 0 < d .clears .holds → d .clears .owes ≡ 0
+  pub near : granted (drop 1 mine) ≡ 0
+
+-- what document 01's refusal 16 leaves of an act: a grant only on the TRAIN that leaves holds 0
+abbrev pub Allowed01 : Act → Desk → Type 0
+Allowed01 (acts.Open view class asked) d = Unit {0}
+Allowed01 (acts.Through view) d = Unit {0}
+Allowed01 (acts.Return asked granted) d = Unit {0}
+Allowed01 (acts.Train view asked granted) d = 0 < granted → d .clears .holds ≤ 1
+Allowed01 (acts.Receive sender form) d = Unit {0}
+
+-- ---- departures
+
+pub plain-opener : (d o : Desk) (t : ℕ) (out : Bool) (m : Movement) (mine theirs : List Movement) → Halves d o mine theirs → OpenPasses d → Plain d mine
+    → Plain (withOut out (departed d t)) (m ∷ mine)
+plain-opener d o t out m mine theirs h p k = record { waiting = k .waiting; owes = k .owes; near = omega (arith, h .own .sum, p .owes) }
+
+pub plain-return : (d o : Desk) (t a g : ℕ) (mine theirs : List Movement) → Halves d o mine theirs → ReturnPasses d → Plain d mine
+    → Plain (returnDesk d t g) (Return a g ∷ mine)
+plain-return d o t a g mine theirs h p k =
+    record { waiting = k .waiting; owes = λ some. absurd (omega (arith, p .holds)); near = ap granted (h .own .guests (p .guest) .none) }
+
+pub plain-train : (d o : Desk) (t a g : ℕ) (mine theirs : List Movement) → Halves d o mine theirs → TrainPasses d g → (0 < g → d .clears .holds ≤ 1) → Plain d mine
+    → Plain (trainDesk d t g) (Train a g ∷ mine)
+plain-train d o t a g mine theirs h p last k =
+    let free = k .owes (p .holds) in
+    record {
+      waiting = k .waiting;
+      owes = λ some. or-else g (d .clears .owes) free ∙ zero-unless g (λ grants. omega (arith, last grants));
+      near = omega (arith, h .own .sum);
+    }
+
+-- ---- receipts
+
+-- the nearest leaves; the farthest leaves
+pub near-rest : (m : Movement) (l : List Movement) → granted (drop 1 (m ∷ l)) ≡ 0 → granted (drop 1 l) ≡ 0
+near-rest m [] h = refl
+near-rest m (n ∷ l) h = omega arith
+
+near-before : (l : List Movement) (m : Movement) → granted (drop 1 (l ++ m ∷ [])) ≡ 0 → granted (drop 1 l) ≡ 0
+near-before [] m h = refl
+near-before (n ∷ l) m h = omega (arith, weigh-snoc grantedIn l m)
+
+alone : (l : List Movement) (m : Movement) → granted (drop 1 (l ++ m ∷ [])) ≡ 0 → 0 < grantedIn m → l ≡ []
+alone [] m h some = refl
+alone (n ∷ l) m h some = absurd (omega (arith, weigh-snoc grantedIn l m))
+
+-- the other's vehicle
+module _ (d o : Desk) (t class : ℕ) (m : Movement) (l : List Movement) (h : Halves d o [] (l ++ m ∷ [])) (own : Plain d []) (far : Plain o (l ++ m ∷ [])) where
+  abbrev taken : Desk
+  taken = otherDesk d t class m
+
+  -- a grant is the last that comes, and its sender holds none
+  pub paid : 0 < grantedIn m → taken .clears .owes ≡ 0
+  paid some =
+      let none : trains l ≡ 0 = ap trains (alone l m (far .near) some) in
+      let their-holds : o .clears .holds ≡ 0 = zero-unless (o .clears .holds) (λ held. omega (arith, far .owes held, far-sum d o m l h)) in
+      omega (arith, own-sum d o m l h, brings d t class m .owes)
+
+  pub plain-far : Plain (replied (grantedIn m) taken) [] × Plain o l
+  plain-far =
+      let b = brings d t class m in
+      let after = released (repliedClears (taken .clears) (grantedIn m)) (b .holds ∙ far-holds d o m l h) in
+      let waits = or-else (grantedIn m) (taken .clears .waiting) (b .waiting ∙ own .waiting) in
+      (record {
+        waiting = zero-unless _
+            (λ (some : 0 < releasedClears (repliedClears (taken .clears) (grantedIn m)) .waiting). omega (arith, after .sum, after .waits some, paid (omega (arith, after .sum))));
+        owes = λ some. after .holding some .0;
+        near = refl;
+      },
+      record { waiting = far .waiting; owes = far .owes; near = near-before l m (far .near) })

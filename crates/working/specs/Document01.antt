@@ -1,0 +1,96 @@
+-- Document 01's own step, as it stood before the requests that alter what a step answers, with the counts of T-01. Today's step is in Steps; this one stays for the
+-- sentence of T-02, "Lists from fresh once accepted throughout are answered as before", which is stated at the end. Only what T-02 altered is written out: refusal 16
+-- on a TRAIN, and what a receipt makes of holds. It neither reads nor alters what waits, which document 01's section does not have: from fresh that is nothing.
+use Prim.Native.Nat.{ℕ}
+use Rattle.working.specs.Acts as acts
+use Rattle.working.specs.Acts.{Act}
+use Rattle.working.specs.Effects.{Arrive, Plan, effectOf, otherDesk, ownDesk}
+use Rattle.working.specs.Events.{At, Bad, Begin, Decoded, Event, Meet, Resume, Says, decode}
+use Rattle.working.specs.Reasons.{departTests, testsOf}
+use Rattle.working.specs.Refusals.{Test, firstOf}
+use Rattle.working.specs.Runs.{Done, Run, endBy, results, resultsBy}
+use Rattle.working.specs.Sections.{deskOf, fresh, nearestAt, numberAt, vehiclesOf, withHolds}
+use Rattle.working.specs.Steps.{doneBy, entered, ifMade, refused, unlessRefused}
+use Rattle.working.specs.Turns.{isAccepted}
+use Rattle.working.specs.WellMade.{wellMade}
+use Rattle.working.specs.declared.Desk.{Desk}
+use Rattle.working.specs.declared.Movement.the-variants.{Open, Return, Through, Train}
+use Rattle.working.specs.declared.Movement.{Movement}
+use Rattle.working.specs.declared.Refusal.the-variants.{GrantNotAllowed, NoLineClear}
+use Rattle.working.specs.declared.Section.{Section}
+use Rattle.working.specs.declared.Station.{Station}
+use Rattle.working.specs.declared.Stepped.{Stepped}
+use Rattle.working.specs.declared.Vehicle.{Vehicle}
+use lib.Dec.{eqb, ltb}
+use mathlib.Core.Bool.{Bool, _&&_, _||_, cond, true}
+use mathlib.Core.List.{List, [], _∷_}
+use mathlib.Core.Path.{_≡_}
+
+-- ---- what T-02 altered
+
+-- 16: "granted above asked at S, or on a TRAIN that leaves holds above 0"
+abbrev pub trainTests01 : Desk → ℕ → List Test
+trainTests01 d granted =
+    (eqb (d .clears .holds) 0, NoLineClear)  -- 15
+    ∷ (ltb (d .clears .asked) granted || (ltb 0 granted && ltb 1 (d .clears .holds)), GrantNotAllowed)  -- 16
+    ∷ []
+
+abbrev pub testsOf01 : Act → Station → Bool → Desk → ℕ → Vehicle → List Test
+testsOf01 (acts.Open view class asked) x force d time v = testsOf (acts.Open view class asked) x force d time v
+testsOf01 (acts.Through view) x force d time v = testsOf (acts.Through view) x force d time v
+testsOf01 (acts.Return asked granted) x force d time v = testsOf (acts.Return asked granted) x force d time v
+testsOf01 (acts.Train view asked granted) x force d time v = departTests force d time (trainTests01 d granted)
+testsOf01 (acts.Receive sender form) x force d time v = testsOf (acts.Receive sender form) x force d time v
+
+-- "RETURN and TRAIN set holds to granted"
+abbrev pub holdsAfter01 : Movement → ℕ → ℕ
+holdsAfter01 (Open asked) before = before
+holdsAfter01 Through before = before
+holdsAfter01 (Return asked granted) before = granted
+holdsAfter01 (Train asked granted) before = granted
+
+abbrev pub arriveDesk01 : Station → Desk → ℕ → Vehicle → Desk
+arriveDesk01 x d time v =
+    cond (eqb (v .sender) (numberAt x)) (ownDesk d time (v .movement))
+    (withHolds (holdsAfter01 (v .movement) (d .clears .holds)) (otherDesk d time (v .class) (v .movement)))
+
+abbrev pub effectOf01 : Act → Station → Desk → ℕ → Vehicle → Plan
+effectOf01 (acts.Open view class asked) x d time v = effectOf (acts.Open view class asked) x d time v
+effectOf01 (acts.Through view) x d time v = effectOf (acts.Through view) x d time v
+effectOf01 (acts.Return asked granted) x d time v = effectOf (acts.Return asked granted) x d time v
+effectOf01 (acts.Train view asked granted) x d time v = effectOf (acts.Train view asked granted) x d time v
+effectOf01 (acts.Receive sender form) x d time v = Arrive (arriveDesk01 x d time v)
+
+-- ---- the step
+
+abbrev pub planOf01 : Act → Station → Bool → Desk → ℕ → Vehicle → Plan
+planOf01 act x force d time v = unlessRefused (firstOf (testsOf01 act x force d time v)) (effectOf01 act x d time v)
+
+abbrev pub entered01 : Section → Event → Stepped
+entered01 s Begin = entered s Begin
+entered01 s (At x time act) = doneBy s (Says (At x time act)) x (planOf01 act x (s .force) (deskOf s x) time (nearestAt x (vehiclesOf s)))
+entered01 s (Meet x sender form) = entered s (Meet x sender form)
+entered01 s Resume = entered s Resume
+
+abbrev pub onDecoded01 : Section → Decoded → Stepped
+onDecoded01 s (Bad why) = refused s (Bad why) why
+onDecoded01 s (Says event) = entered01 s event
+
+unfoldable pub stepOf01 : Section → List ℕ → Stepped
+stepOf01 s bytes = ifMade (wellMade s) s (onDecoded01 s (decode bytes))
+
+-- ---- "Lists from fresh once accepted throughout are answered as before"
+
+-- document 01's step refuses none of a list from s
+abbrev pub accepts01 : Section → List Done → Bool
+accepts01 s [] = true
+accepts01 s (d ∷ l) = isAccepted (stepOf01 s (d .bytes) .answer) && accepts01 (stepOf01 s (d .bytes) .section) l
+
+-- today's step gave each step of a list the answer and the section of document 01's, the section at the end is the same, and nothing waits
+pub record AsBefore {l : List Done} {s : Section} (run : Run fresh l s) : Type 0 where
+  pub each : results run ≡ resultsBy stepOf01 fresh l
+  pub end : s ≡ endBy stepOf01 fresh l
+  pub waiting : (x : Station) → deskOf s x .clears .waiting ≡ 0
+
+abbrev pub AnsweredAsBefore : Type 0
+AnsweredAsBefore = (l : List Done) (s : Section) (run : Run fresh l s) → accepts01 fresh l ≡ true → AsBefore run

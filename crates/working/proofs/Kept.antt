@@ -1,7 +1,7 @@
 -- Every step keeps the invariant: what it says of both stations' desks and of the vehicles between them.
 -- Each case of a step is one law of the invariant, over the station's own desk and the other's.
 -- Assumes nothing.
-use Prim.Native.Nat.{suc, ℕ}
+use Prim.Native.Nat.{ℕ}
 use Rattle.working.proofs.Changes.{Change, Sound, arrival, change, departure, emptying, meeting, refusal, sound-emptied, sound-step, well-at}
 use Rattle.working.proofs.Clauses.{Shape}
 use Rattle.working.proofs.Invariant.{Half, Halves, openers, quiet}
@@ -9,13 +9,13 @@ use Rattle.working.proofs.Vehicles.{From, every-end, not-other, number-
 use Rattle.working.proofs.Made.{Well, vehicles-with, other-sender}
 use Rattle.working.proofs.Plans.{Departs}
 use Rattle.working.proofs.Receipts.{Receipt, keeps-far, keeps-own, of-other, of-own, receipt}
-use Rattle.working.proofs.Sides.{moves-far, moves-none, moves-own, moves-past, moves-skip, moves-redirected, movesOf}
+use Rattle.working.proofs.Sides.{moves-far, moves-met, moves-none, moves-own, moves-past, moves-skip, movesOf}
 use Rattle.working.specs.Acts.{Act}
 use Rattle.working.specs.Effects.{Departing, arriveDesk}
 use Rattle.working.specs.Events.{Decoded, decode}
 use Rattle.working.specs.Reasons.{mayEnter}
 use Rattle.working.specs.Sections.{deskOf, emptied, freshDesk, insertAt, vehiclesOf, otherAt, withDesk, withVehicles}
-use Rattle.working.specs.Steps.{metAt, stepOf, redirectAt}
+use Rattle.working.specs.Steps.{metAt, stepOf}
 use Rattle.working.specs.declared.Counts.{Counts}
 use Rattle.working.specs.declared.Desk.{Desk}
 use Rattle.working.specs.declared.Section.{Section}
@@ -82,10 +82,7 @@ kept-change s e r g (arrival x time y n k f may w) =
     kept-with s x (arriveDesk x (deskOf s x) time (k .vehicle)) (k .others) w
     (kept-arrive x (deskOf s x) (deskOf s (otherAt x)) time (k .vehicle) (k .others) before (rw (k .whole) at (kept-at x s g)) may)
 kept-change s e r g (meeting x y n i f w) =
-    rw (vehicles-with 24 (metAt x i (vehiclesOf s)) (w .fits), met A, met B) (g .kept)
-  where
-    met : (z : Station) → movesOf z (metAt x i (vehiclesOf s)) ≡ movesOf z (vehiclesOf s)
-    met z = moves-redirected z x (suc i) (redirectAt x i (vehiclesOf s)) ∙ moves-redirected z x i (vehiclesOf s)
+    rw (vehicles-with 24 (metAt x i (vehiclesOf s)) (w .fits), moves-met A x i (vehiclesOf s), moves-met B x i (vehiclesOf s)) (g .kept)
 
 pub good-emptied : (force : Bool) (counts : Counts) → Good (emptied force counts)
 good-emptied force counts = record { sound = sound-emptied force counts; kept = kept-emptied }

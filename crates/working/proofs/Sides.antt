@@ -7,7 +7,7 @@ use Rattle.working.proofs.Invariant.{weigh, weigh-snoc}
 use Rattle.working.proofs.Vehicles.{From, NotFrom, not-own}
 use Rattle.working.specs.Demand3.{ofStation}
 use Rattle.working.specs.Sections.{insertAt, numberAt, otherAt, unused}
-use Rattle.working.specs.Steps.{redirectAt}
+use Rattle.working.specs.Steps.{metAt, redirectAt}
 use Rattle.working.specs.WellMade.{isFrom, sumOver}
 use Rattle.working.specs.declared.Movement.{Movement}
 use Rattle.working.specs.declared.Station.the-variants.{A, B}
@@ -128,8 +128,12 @@ module _ (x : Station) (v : Vehicle) (l : List Vehicle) where
 pub moves-none : (x : Station) (l : List Vehicle) → Every (From (otherAt x)) l → movesOf x l ≡ []
 moves-none x l h = own-none x (seenFrom x l) (every-seen (From (otherAt x)) A x l h)
 
-pub moves-redirected : (x z : Station) (i : ℕ) (l : List Vehicle) → movesOf x (redirectAt z i l) ≡ movesOf x l
+moves-redirected : (x z : Station) (i : ℕ) (l : List Vehicle) → movesOf x (redirectAt z i l) ≡ movesOf x l
 moves-redirected x z i l = own-seen (numberAt x) x (redirectAt z i l) ∙ ap (seenFrom x) (own-redirected (numberAt x) z i l) ∙ sym (own-seen (numberAt x) x l)
+
+-- a MEET redirects two
+pub moves-met : (x z : Station) (i : ℕ) (l : List Vehicle) → movesOf x (metAt z i l) ≡ movesOf x l
+moves-met x z i l = moves-redirected x z (suc i) (redirectAt z i l) ∙ moves-redirected x z i l
 
 -- ---- figures of what a station's vehicles left on
 

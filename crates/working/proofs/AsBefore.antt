@@ -1,0 +1,266 @@
+-- T-02: "Lists from fresh once accepted throughout are answered as before." Of every list of steps from fresh of which document 01's own step refuses none, today's step
+-- gives each the same answer and the same section, and nothing waits at the end: `answered-as-before`.
+-- The two steps differ in refusal 16 on a TRAIN and in what a receipt makes of holds. In such a list a station that holds a line clear owes none, so that a TRAIN which
+-- document 01 lets go is let go; and whoever receives a grant owes nothing after it, so that it is held at once (`Plain`).
+-- Assumes nothing.
+use Prim.Native.Nat.{_<_, ℕ}
+use Rattle.working.proofs.Changes.{Change, arrival, change, departure, emptying, meeting, named-there, refusal, step-is, well-at}
+use Rattle.working.proofs.Clauses.{Shape}
+use Rattle.working.proofs.Invariant.{Halves, far-holds}
+use Rattle.working.proofs.Kept.{Between, Good, good-emptied, good-step, kept-at}
+use Rattle.working.proofs.Lists.{each-result, step-did}
+use Rattle.working.proofs.Made.{Well, other-sender, vehicles-with}
+use Rattle.working.proofs.Plain.{Allowed01, Plain, near-rest, paid, plain-far}
+use Rattle.working.proofs.Plans.{Departs}
+use Rattle.working.proofs.Reasons.{depart-passes, receive-passes}
+use Rattle.working.proofs.Receipts.{Receipt, nothing-replied, of-other, of-own, receipt}
+use Rattle.working.proofs.Sides.{moves-far, moves-met, moves-none, moves-own, moves-past, moves-skip, movesOf}
+use Rattle.working.proofs.Tests.{NoneHolds, both, no-test, none-holds, or-left, or-right, some-test, zero-test}
+use Rattle.working.proofs.Vehicles.{From, NotFrom, Nearest, every-end, nearest, not-other, number-same, ordered-far}
+use Rattle.working.specs.Acts as acts
+use Rattle.working.specs.Acts.{Act}
+use Rattle.working.specs.Document01.{AnsweredAsBefore, accepts01, arriveDesk01, entered01, holdsAfter01, onDecoded01, planOf01, stepOf01, testsOf01, trainTests01}
+use Rattle.working.specs.Effects.{Plan, arriveDesk, effectOf, grantedIn, otherDesk, ownDesk, replied}
+use Rattle.working.specs.Events.{At, Bad, Begin, Decoded, Meet, Resume, Says, decode}
+use Rattle.working.specs.Reasons.{departTests, mayEnter, testsOf, trainTests}
+use Rattle.working.specs.Refusals.{Test, firstOf}
+use Rattle.working.specs.Runs.{Done, Run, endBy, next, resultsBy, resultsOf, stop}
+use Rattle.working.specs.Sections.{deskOf, freshDesk, insertAt, nearestAt, noneRefused, otherAt, vehiclesOf, withDesk, withHolds, withVehicles}
+use Rattle.working.specs.Steps.{doneBy, entered, metAt, onDecoded, planOf, stepOf, unlessRefused}
+use Rattle.working.specs.Turns.{isAccepted}
+use Rattle.working.specs.WellMade.{isOpener, wellMade}
+use Rattle.working.specs.declared.Desk.{Desk}
+use Rattle.working.specs.declared.Movement.the-variants.{Open, Return, Through, Train}
+use Rattle.working.specs.declared.Movement.{Movement}
+use Rattle.working.specs.declared.Section.{Section}
+use Rattle.working.specs.declared.Station.the-variants.{A, B}
+use Rattle.working.specs.declared.Station.{Station}
+use Rattle.working.specs.declared.Stepped.{Stepped}
+use Rattle.working.specs.declared.Vehicle.{Vehicle}
+use Rattle.working.specs.declared.Verdict.the-variants.{Allowed, Refused}
+use Rattle.working.specs.declared.Verdict.{Verdict}
+use borrow.Author.Tests.{lt-ltb, ltb-false, ltb-true}
+use lib.Dec.{ltb}
+use mathlib.Core.Bool.{Bool, _&&_, and-false, false, false≢true, true}
+use mathlib.Core.List.{List, [], _++_, _∷_}
+use mathlib.Core.Path.{_∙_, _≡_, ap, ap₂, refl, sym}
+
+-- what stands beside the invariant, seen from station x, whose desk is d, the other's o
+pub record Plains (x : Station) (d o : Desk) (l : List Vehicle) : Type 0 where
+  pub own : Plain d (movesOf x l)
+  pub far : Plain o (movesOf (otherAt x) l)
+
+abbrev PlainIn : Section → Type 0
+PlainIn s = Plains A (s .a) (s .b) (vehiclesOf s)
+
+plain-at : (x : Station) (s : Section) → PlainIn s → Plains x (deskOf s x) (deskOf s (otherAt x)) (vehiclesOf s)
+plain-at A s k = k
+plain-at B s k = record { own = k .far; far = k .own }
+
+plain-with : (s : Section) (x : Station) (e : Desk) (l : List Vehicle) → Well x e (deskOf s (otherAt x)) l → Plains x e (deskOf s (otherAt x)) l
+    → PlainIn (withDesk (withVehicles s l) x e)
+plain-with s A e l w k = rw (vehicles-with 24 l (w .fits)) k
+plain-with s B e l w k = rw (vehicles-with 24 l (w .fits)) (record { own = k .far; far = k .own })
+
+-- ---- a receipt
+
+-- a grant that comes where nothing is owed after it is held at once
+grant-held : (g : ℕ) (e : Desk) → e .clears .holds ≡ 0 → e .clears .waiting ≡ 0 → (0 < g → e .clears .owes ≡ 0) → replied g e ≡ withHolds g e
+grant-held g e none empty pays = by (ltb 0 g) refl
+  where
+    by : (b : Bool) → ltb 0 g ≡ b → replied g e ≡ withHolds g e
+    by true some = rw (some, empty, pays (ltb-true 0 g some), some)
+    by false zero = nothing-replied g e (no-test g zero) empty ∙ rw (no-test g zero, ← none)
+
+own-same : (d : Desk) (t : ℕ) (m : Movement) → isOpener m ≡ true → d .clears .waiting ≡ 0 → replied (grantedIn m) (ownDesk d t m) ≡ ownDesk d t m
+own-same d t (Open a) is empty = nothing-replied 0 _ refl empty
+own-same d t Through is empty = nothing-replied 0 _ refl empty
+own-same d t (Return a g) is empty = absurd (false≢true is)
+own-same d t (Train a g) is empty = absurd (false≢true is)
+
+other-same : (d : Desk) (t class : ℕ) (m : Movement) → d .clears .holds ≡ 0 → d .clears .waiting ≡ 0 → (0 < grantedIn m → otherDesk d t class m .clears .owes ≡ 0)
+    → replied (grantedIn m) (otherDesk d t class m) ≡ withHolds (holdsAfter01 m (d .clears .holds)) (otherDesk d t class m)
+other-same d t class (Open a) none empty pays = nothing-replied 0 _ refl empty
+other-same d t class Through none empty pays = nothing-replied 0 _ refl empty
+other-same d t class (Return a g) none empty pays = grant-held g _ none empty pays
+other-same d t class (Train a g) none empty pays = grant-held g _ none empty pays
+
+own-clears : (d : Desk) (t : ℕ) (m : Movement) → ownDesk d t m .clears ≡ d .clears
+own-clears d t (Open a) = refl
+own-clears d t Through = refl
+own-clears d t (Return a g) = refl
+own-clears d t (Train a g) = refl
+
+-- a vehicle v that may enter is taken at x: the desk e after it
+module _ (x : Station) (d o : Desk) (time : ℕ) (v : Vehicle) (l : List Vehicle)
+    (w : Well x d o (insertAt x v l)) (h : Between x d o (insertAt x v l)) (k : Plains x d o (insertAt x v l)) where
+  record TakenAs (e : Desk) : Type 0 where
+    same : e ≡ arriveDesk01 x d time v
+    plain : Plains x e o l
+
+  taken-own : From x v → isOpener (v .movement) ≡ true → TakenAs (replied (grantedIn (v .movement)) (ownDesk d time (v .movement)))
+  taken-own is opener =
+      let own : Plain d (v .movement ∷ movesOf x l) = rw (moves-own x v l is) at (k .own) in
+      let e = own-same d time (v .movement) opener (own .waiting) in
+      let clears = own-clears d time (v .movement) in
+      record {
+        same = e ∙ rw is;
+        plain = rw e
+            (record {
+              own = record { waiting = rw clears (own .waiting); owes = rw clears (own .owes); near = near-rest (v .movement) (movesOf x l) (own .near) };
+              far = rw (moves-past x v l (not-other x v is)) at (k .far);
+            });
+      }
+
+  taken-other : NotFrom x v → TakenAs (replied (grantedIn (v .movement)) (otherDesk d time (v .class) (v .movement)))
+  taken-other is =
+      let shape = every-end Shape x v l (w .shape) .1 in
+      let none-own = moves-none x l (ordered-far x v l is (w .order) .1) in
+      let theirs = moves-far x v l (other-sender x v shape is) in
+      let halves : Halves d o [] (movesOf (otherAt x) l ++ v .movement ∷ []) = rw (moves-skip x v l is, none-own, theirs) at h in
+      let own : Plain d [] = rw (moves-skip x v l is, none-own) at (k .own) in
+      let far : Plain o (movesOf (otherAt x) l ++ v .movement ∷ []) = rw theirs at (k .far) in
+      let after = plain-far d o time (v .class) (v .movement) (movesOf (otherAt x) l) halves own far in
+      record {
+        same = other-same d time (v .class) (v .movement) (far-holds d o (v .movement) (movesOf (otherAt x) l) halves) (own .waiting)
+            (paid d o time (v .class) (v .movement) (movesOf (otherAt x) l) halves own far)
+            ∙ rw is;
+        plain = record { own = rw none-own (after .0); far = after .1 };
+      }
+
+  taken-as : mayEnter x v ≡ true → TakenAs (arriveDesk x d time v)
+  taken-as may = by (receipt x d time v may)
+    where
+      by : {e : Desk} → Receipt x d time v e → TakenAs e
+      by (of-own is opener) = taken-own is opener
+      by (of-other is) = taken-other is
+
+-- ---- an act that document 01's tests let pass
+
+same-tests : (d : Desk) (granted : ℕ) → d .clears .owes ≡ 0 → NoneHolds (trainTests01 d granted) → trainTests d granted ≡ trainTests01 d granted
+same-tests d granted free none =
+    let above = or-left (ltb (d .clears .asked) granted) _ (none .1 .0) in
+    rw (none .1 .0, above, zero-test (d .clears .owes) free, and-false (ltb 0 granted))
+
+-- what is known of an act that passes: the plan is the same, and the grant of a TRAIN leaves holds 0
+record ActAs (act : Act) (x : Station) (force : Bool) (d : Desk) (time : ℕ) (v : Vehicle) : Type 0 where
+  plan : planOf act x force d time v ≡ planOf01 act x force d time v
+  allowed : Allowed01 act d
+
+act-as : (act : Act) (x : Station) (force : Bool) (d o : Desk) (time : ℕ) (l : List Vehicle) → Well x d o l → Between x d o l → Plains x d o l
+    → firstOf (testsOf01 act x force d time (nearestAt x l)) ≡ Allowed → ActAs act x force d time (nearestAt x l)
+act-as (acts.Open view class asked) x force d o time l w h k passes = record { plan = refl; allowed = tt }
+act-as (acts.Through view) x force d o time l w h k passes = record { plan = refl; allowed = tt }
+act-as (acts.Return asked granted) x force d o time l w h k passes = record { plan = refl; allowed = tt }
+act-as (acts.Train view asked granted) x force d o time l w h k passes =
+    let own = depart-passes force d time (trainTests01 d granted) (none-holds (departTests force d time (trainTests01 d granted)) passes) .own in
+    let leaves-some = or-right (ltb (d .clears .asked) granted) (ltb 0 granted && ltb 1 (d .clears .holds)) (own .1 .0) in
+    let same = same-tests d granted (k .own .owes (some-test _ (own .0))) own in
+    record {
+      plan = ap (λ (tests : List Test). unlessRefused (firstOf (departTests force d time tests)) (effectOf (acts.Train view asked granted) x d time (nearestAt x l))) same;
+      allowed = λ some. ltb-false 1 _ (rw (lt-ltb 0 granted some) at leaves-some);
+    }
+act-as (acts.Receive sender form) x force d o time l w h k passes =
+    let p = receive-passes force d time x sender form (nearestAt x l) (none-holds (testsOf (acts.Receive sender form) x force d time (nearestAt x l)) passes) in
+    let n = nearest x l (named-there sender form x l (p .named)) in
+    let same = taken-as x d o time (n .vehicle) (n .others) (rw (n .whole) at w) (rw (n .whole) at h) (rw (n .whole) at k) (rw (n .near) at (p .enters)) .same in
+    record { plan = rw (passes, n .near, same); allowed = tt }
+
+-- ---- the step
+
+-- what is known of the act in a step that document 01 accepts
+abbrev Allows : Section → Decoded → Type 0
+Allows s (Bad why) = Unit {0}
+Allows s (Says Begin) = Unit {0}
+Allows s (Says (At x time act)) = Allowed01 act (deskOf s x)
+Allows s (Says (Meet x sender form)) = Unit {0}
+Allows s (Says Resume) = Unit {0}
+
+passes01 : (s : Section) (e : Decoded) (x : Station) (v : Verdict) (p : Plan) → isAccepted (doneBy s e x (unlessRefused v p) .answer) ≡ true → v ≡ Allowed
+passes01 s e x (Refused why) p accepted = absurd (false≢true accepted)
+passes01 s e x Allowed p accepted = refl
+
+entered-as : (s : Section) (x : Station) (time : ℕ) (act : Act)
+    → planOf act x (s .force) (deskOf s x) time (nearestAt x (vehiclesOf s)) ≡ planOf01 act x (s .force) (deskOf s x) time (nearestAt x (vehiclesOf s))
+    → entered s (At x time act) ≡ entered01 s (At x time act)
+unfolding entered
+entered-as s x time act plan = ap (doneBy s (Says (At x time act)) x) plan
+
+decoded-as : (s : Section) (e : Decoded) → Good s → PlainIn s → isAccepted (onDecoded01 s e .answer) ≡ true → (onDecoded s e ≡ onDecoded01 s e) × Allows s e
+decoded-as s (Bad why) g k accepted = absurd (false≢true accepted)
+decoded-as s (Says Begin) g k accepted = (refl, tt)
+decoded-as s (Says (At x time act)) g k accepted =
+    let passes = passes01 s (Says (At x time act)) x _ _ accepted in
+    let a = act-as act x (s .force) (deskOf s x) (deskOf s (otherAt x)) time (vehiclesOf s) (well-at s x (g .sound)) (kept-at x s g) (plain-at x s k) passes in
+    (entered-as s x time act (a .plan), a .allowed)
+decoded-as s (Says (Meet x sender form)) g k accepted = (refl, tt)
+decoded-as s (Says Resume) g k accepted = (refl, tt)
+
+plain-emptied : Plains A freshDesk freshDesk []
+plain-emptied = record { own = none; far = none }
+  where
+    none : Plain freshDesk []
+    none = record { waiting = refl; owes = λ some. refl; near = refl }
+
+plain-change : (s : Section) (e : Decoded) (r : Stepped) → Good s → PlainIn s → Allows s e → Change s e r → PlainIn (r .section)
+plain-change s e r g k allows (refusal step why) = k
+plain-change s e r g k allows (emptying step force) = plain-emptied
+plain-change s e r g k allows (departure x time act {p} f leaves w) =
+    let from : From x (p .vehicle) = rw (leaves .sender) (number-same x) in
+    let l = vehiclesOf s in
+    let here = plain-at x s k in
+    plain-with s x (p .desk) (insertAt x (p .vehicle) l) w
+    (record {
+      own = rw (moves-own x (p .vehicle) l from) (leaves .plain (deskOf s (otherAt x)) (movesOf x l) (movesOf (otherAt x) l) (kept-at x s g) allows (here .own));
+      far = rw (moves-past x (p .vehicle) l (not-other x (p .vehicle) from)) (here .far);
+    })
+plain-change s e r g k allows (arrival x time y n near f may w) =
+    let before = rw (near .whole) at (well-at s x (g .sound)) in
+    plain-with s x (arriveDesk x (deskOf s x) time (near .vehicle)) (near .others) w
+    (taken-as x (deskOf s x) (deskOf s (otherAt x)) time (near .vehicle) (near .others) before (rw (near .whole) at (kept-at x s g)) (rw (near .whole) at (plain-at x s k)) may .plain)
+plain-change s e r g k allows (meeting x y n i f w) =
+    let present = vehicles-with 24 (metAt x i (vehiclesOf s)) (w .fits) in
+    record { own = rw (present, moves-met A x i (vehiclesOf s)) (k .own); far = rw (present, moves-met B x i (vehiclesOf s)) (k .far) }
+
+step-01-is : (s : Section) (bytes : List ℕ) → wellMade s ≡ true → stepOf01 s bytes ≡ onDecoded01 s (decode bytes)
+unfolding stepOf01
+step-01-is s bytes made = rw made
+
+step-as : (s : Section) (bytes : List ℕ) → Good s → PlainIn s → isAccepted (stepOf01 s bytes .answer) ≡ true
+    → (stepOf s bytes ≡ stepOf01 s bytes) × PlainIn (stepOf s bytes .section)
+step-as s bytes g k accepted =
+    let made = g .sound .well in
+    let (same, allows) = decoded-as s (decode bytes) g k (rw (step-01-is s bytes made) at accepted) in
+    (step-is s bytes made ∙ same ∙ sym (step-01-is s bytes made), plain-change s (decode bytes) (stepOf s bytes) g k allows (change s bytes (g .sound)))
+
+-- ---- the list
+
+record ListAs (s : Section) (l : List Done) (t : Section) : Type 0 where
+  each : resultsOf s l ≡ resultsBy stepOf01 s l
+  end : t ≡ endBy stepOf01 s l
+  plain : PlainIn t
+
+list-as : {s t : Section} {l : List Done} → Good s → PlainIn s → Run s l t → accepts01 s l ≡ true → ListAs s l t
+list-as g k stop accepted = record { each = refl; end = refl; plain = k }
+list-as {s} g k (next {t = t} {d = d} {l = l} h r) accepted =
+    let (first, others) = both (isAccepted (stepOf01 s (d .bytes) .answer)) (accepts01 (stepOf01 s (d .bytes) .section) l) accepted in
+    let (same, plain) = step-as s (d .bytes) g k first in
+    let left = step-did d s t h .left in
+    let after : t ≡ stepOf01 s (d .bytes) .section = left ∙ ap (λ (z : Stepped). z .section) same in
+    let rest = list-as (rw left (good-step s (d .bytes) g)) (rw left plain) r (rw after others) in
+    record {
+      each = ap₂ _∷_ same (ap (λ (z : Section). resultsOf z l) (sym left) ∙ rest .each ∙ ap (λ (z : Section). resultsBy stepOf01 z l) after);
+      end = rest .end ∙ ap (λ (z : Section). endBy stepOf01 z l) after;
+      plain = rest .plain;
+    }
+
+-- ---- the theorem
+
+pub answered-as-before : AnsweredAsBefore
+answered-as-before l s run accepted =
+    let k = list-as (good-emptied false noneRefused) plain-emptied run accepted in
+    record { each = each-result run ∙ k .each; end = k .end; waiting = waiting (k .plain) }
+  where
+    waiting : PlainIn s → (x : Station) → deskOf s x .clears .waiting ≡ 0
+    waiting k A = k .own .waiting
+    waiting k B = k .far .waiting

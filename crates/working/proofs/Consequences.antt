@@ -44,7 +44,7 @@ alternately f [] = []
 alternately byValue (bytes ∷ l) = record { form = byValue; bytes = bytes } ∷ alternately inPlace l
 alternately inPlace (bytes ∷ l) = record { form = inPlace; bytes = bytes } ∷ alternately byValue l
 
-abbrev list : List (List ℕ) → List Todo
+abbrev pub list : List (List ℕ) → List Todo
 list l = alternately byValue (begin ∷ l)
 
 abbrev handed : Form → List ℕ → Answer → Done
@@ -64,24 +64,14 @@ departure station kind number forms speed = record { station = station; kind = k
 abbrev granting : Station → List (List ℕ)
 granting x = opens (numberAt x) 0 1 2 ∷ receive (numberAt (otherAt x)) 60 (numberAt x) 1 ∷ returnsAsking (numberAt (otherAt x)) 61 3 2 ∷ []
 
-abbrev holding : Station → List (List ℕ)
+abbrev pub holding : Station → List (List ℕ)
 holding x = granting x ++ receive (numberAt x) 90 (numberAt (otherAt x)) 1 ∷ []
 
 abbrev running : Station → List (List ℕ)
 running x = holding x ++ train (numberAt x) 91 ∷ []
 
-abbrev following : Station → List (List ℕ)
+abbrev pub following : Station → List (List ℕ)
 following x = running x ++ trainGranting (numberAt x) 121 3 ∷ []
-
--- or it sends the reply ahead, with the first of the two; the other takes that train while it owes the second, and then the second
-abbrev ahead : Station → List (List ℕ)
-ahead x = holding x ++ trainGranting (numberAt x) 91 3 ∷ train (numberAt x) 121 ∷ []
-
-abbrev waiting : Station → List (List ℕ)
-waiting x = ahead x ++ receive (numberAt (otherAt x)) 150 (numberAt x) 2 ∷ []
-
-abbrev released : Station → List (List ℕ)
-released x = waiting x ++ receive (numberAt (otherAt x)) 160 (numberAt x) 3 ∷ []
 
 -- ---- each step has the answer and the section that document 01 fixes for it
 
@@ -256,11 +246,11 @@ balance l x b e force =
     omega (arith, demand3 (runs fresh l) .owed (ap (λ (z : Balance). z .force) e ∙ force) x)
 
 -- a list in force with these figures, and that the first is the sum of the rest
-abbrev Owed : List (List ℕ) → Station → ℕ → ℕ → ℕ → ℕ → ℕ → Type 0
+abbrev pub Owed : List (List ℕ) → Station → ℕ → ℕ → ℕ → ℕ → ℕ → Type 0
 Owed l x owes holds waits trains way =
     (balanceOf (list l) x ≡ record { force = true; owes = owes; holds = holds; waits = waits; trains = trains; way = way }) × (owes ≡ holds + waits + trains + way)
 
-owed : (l : List (List ℕ)) (x : Station) {owes holds waits trains way : ℕ}
+pub owed : (l : List (List ℕ)) (x : Station) {owes holds waits trains way : ℕ}
     → balanceOf (list l) x ≡ record { force = true; owes = owes; holds = holds; waits = waits; trains = trains; way = way } → Owed l x owes holds waits trains way
 owed l x e = (e, balance (list l) x _ e refl)
 
@@ -275,18 +265,6 @@ either-station : (x : Station)
 unfolding step-computes
 either-station A = (owed (granting A) B refl, owed (holding A) B refl, owed (running A) B refl, owed (following A) B refl, owed (following A) A refl)
 either-station B = (owed (granting B) A refl, owed (holding B) A refl, owed (running B) A refl, owed (following B) A refl, owed (following B) B refl)
-
--- sent ahead, the three are on the way; they wait at the other while it owes the second train; and it holds them when that one is in
-sent-ahead : (x : Station)
-    → Owed (ahead x) x 3 0 0 0 3
-    × Owed (ahead x) (otherAt x) 2 0 0 2 0
-    × Owed (waiting x) x 3 0 3 0 0
-    × Owed (waiting x) (otherAt x) 1 0 0 1 0
-    × Owed (released x) x 3 3 0 0 0
-    × Owed (released x) (otherAt x) 0 0 0 0 0
-unfolding step-computes
-sent-ahead A = (owed (ahead A) A refl, owed (ahead A) B refl, owed (waiting A) A refl, owed (waiting A) B refl, owed (released A) A refl, owed (released A) B refl)
-sent-ahead B = (owed (ahead B) B refl, owed (ahead B) A refl, owed (waiting B) B refl, owed (waiting B) A refl, owed (released B) B refl, owed (released B) A refl)
 
 -- ---- two neighbours change places: each keeps the answer it had, every other place its own, and the section is the same
 

@@ -1,3 +1,4 @@
+pub mod Ahead
 pub mod AsBefore
 pub mod Bytes
 pub mod Changes

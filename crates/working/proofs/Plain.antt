@@ -84,11 +84,12 @@ module _ (d o : Desk) (t class : ℕ) (m : Movement) (l : List Movement) (h : Ha
   plain-far =
       let b = brings d t class m in
       let after = released (repliedClears (taken .clears) (grantedIn m)) (b .holds ∙ far-holds d o m l h) in
-      let waits = or-else (grantedIn m) (taken .clears .waiting) (b .waiting ∙ own .waiting) in
-      (record {
-        waiting = zero-unless _
-            (λ (some : 0 < releasedClears (repliedClears (taken .clears) (grantedIn m)) .waiting). omega (arith, after .sum, after .waits some, paid (omega (arith, after .sum))));
-        owes = λ some. after .holding some .0;
-        near = refl;
-      },
-      record { waiting = far .waiting; owes = far .owes; near = near-before l m (far .near) })
+      let waits = or-else (grantedIn m) (taken .clears .waiting) (b .waiting ∙ own .waiting) in (
+        record {
+          waiting = zero-unless _
+              (λ (some : 0 < releasedClears (repliedClears (taken .clears) (grantedIn m)) .waiting). omega (arith, after .sum, after .waits some, paid (omega (arith, after .sum))));
+          owes = λ some. after .holding some .0;
+          near = refl;
+        },
+        record { waiting = far .waiting; owes = far .owes; near = near-before l m (far .near) },
+      )

@@ -1,0 +1,72 @@
+-- A reply sent ahead of the last train, T-02 on lists from fresh, for either station: it waits while the receiving station owes, and is held when the last train is in.
+-- Document 01 refused it with 16; and of a list that document 01 accepts throughout every answer is as before.
+-- Assumes nothing.
+use Prim.Native.Nat.{ℕ}
+use Rattle.working.proofs.AsBefore.{answered-as-before}
+use Rattle.working.proofs.Computing.{step-computes}
+use Rattle.working.proofs.Consequences.{Owed, following, holding, list, owed}
+use Rattle.working.proofs.Lists.{after, done, runs}
+use Rattle.working.proofs.Literals.{receive, train, trainGranting}
+use Rattle.working.specs.Document01.{AsBefore, accepts01, stepOf01}
+use Rattle.working.specs.Sections.{fresh, numberAt, otherAt}
+use Rattle.working.specs.Steps.{stepOf}
+use Rattle.working.specs.declared.Answer.the-variants.{Accepted, Refused}
+use Rattle.working.specs.declared.Refusal.the-variants.{GrantNotAllowed}
+use Rattle.working.specs.declared.Speed.the-variants.{Booked}
+use Rattle.working.specs.declared.Station.the-variants.{A, B}
+use Rattle.working.specs.declared.Station.{Station}
+use mathlib.Core.Bool.{false, true}
+use mathlib.Core.List.{List, [], _++_, _∷_}
+use mathlib.Core.Path.{_≡_, refl}
+
+-- station x holds two line clears and is asked for three (Consequences). It sends the reply ahead, with the first of its two trains; the other takes that train while it
+-- owes the second, and then the second
+abbrev ahead : Station → List (List ℕ)
+ahead x = holding x ++ trainGranting (numberAt x) 91 3 ∷ train (numberAt x) 121 ∷ []
+
+abbrev waiting : Station → List (List ℕ)
+waiting x = ahead x ++ receive (numberAt (otherAt x)) 150 (numberAt x) 2 ∷ []
+
+abbrev released : Station → List (List ℕ)
+released x = waiting x ++ receive (numberAt (otherAt x)) 160 (numberAt x) 3 ∷ []
+
+-- ---- it waits, and is held
+
+-- sent ahead, the three are on the way; they wait at the other while it owes the second train; and it holds them when that one is in
+sent-ahead : (x : Station)
+    → Owed (ahead x) x 3 0 0 0 3
+    × Owed (ahead x) (otherAt x) 2 0 0 2 0
+    × Owed (waiting x) x 3 0 3 0 0
+    × Owed (waiting x) (otherAt x) 1 0 0 1 0
+    × Owed (released x) x 3 3 0 0 0
+    × Owed (released x) (otherAt x) 0 0 0 0 0
+unfolding step-computes
+sent-ahead A = (owed (ahead A) A refl, owed (ahead A) B refl, owed (waiting A) A refl, owed (waiting A) B refl, owed (released A) A refl, owed (released A) B refl)
+sent-ahead B = (owed (ahead B) B refl, owed (ahead B) A refl, owed (waiting B) B refl, owed (waiting B) A refl, owed (released B) B refl, owed (released B) A refl)
+
+-- ---- document 01 refused it
+
+abbrev replying : Station → List ℕ
+replying x = trainGranting (numberAt x) 91 3
+
+refused-before : (x : Station)
+    → (stepOf01 (after fresh (list (holding x))) (replying x) .answer ≡ Refused GrantNotAllowed)
+    × (accepts01 fresh (done fresh (list (ahead x))) ≡ false)
+unfolding step-computes stepOf01
+refused-before A = (refl, refl)
+refused-before B = (refl, refl)
+
+accepted-now : (stepOf (after fresh (list (holding A))) (replying A) .answer ≡ Accepted 2 172 Booked)
+    × (stepOf (after fresh (list (holding B))) (replying B) .answer ≡ Accepted 2 180 Booked)
+unfolding step-computes
+accepted-now = (refl, refl)
+
+-- ---- and a list that it accepts throughout, with a reply on the last train, is answered as before
+
+accepted-before : (x : Station) → accepts01 fresh (done fresh (list (following x))) ≡ true
+unfolding step-computes stepOf01
+accepted-before A = refl
+accepted-before B = refl
+
+following-as-before : (x : Station) → AsBefore (runs fresh (list (following x)))
+following-as-before x = answered-as-before (done fresh (list (following x))) (after fresh (list (following x))) (runs fresh (list (following x))) (accepted-before x)

@@ -224,45 +224,21 @@ fn all_of(figures: [u8; 5]) -> impl Iterator<Item = (u8, u8, u8)> {
 #[test]
 fn departures_leave_what_waits() {
     for station in Station::BOTH {
+        let open = Entry::open(station, 0, 1, 1, 8);
+        let through = Entry::through(station, 0, 1);
+        let back = |granted| Entry::send_back(station, 0, 0, granted);
+        let train = |granted| Entry::train(station, 0, 1, 0, granted);
         for (entry, figures, after) in [
             // Guest, asked, holds, owes and waiting; the last four after it.
-            (
-                Entry::open(station, 0, 1, 1, 8),
-                [0, 3, 0, 0, 5],
-                [3, 0, 0, 5],
-            ),
-            (Entry::through(station, 0, 1), [0, 3, 0, 0, 5], [3, 0, 0, 5]),
-            (
-                Entry::send_back(station, 0, 0, 0),
-                [2, 3, 0, 4, 5],
-                [0, 0, 4, 5],
-            ),
+            (open, [0, 3, 0, 0, 5], [3, 0, 0, 5]),
+            (through, [0, 3, 0, 0, 5], [3, 0, 0, 5]),
+            (back(0), [2, 3, 0, 4, 5], [0, 0, 4, 5]),
             // A RETURN grants though its station owes, more or less than that.
-            (
-                Entry::send_back(station, 0, 0, 3),
-                [2, 3, 0, 4, 5],
-                [0, 0, 3, 5],
-            ),
-            (
-                Entry::send_back(station, 0, 0, 3),
-                [2, 3, 0, 1, 5],
-                [0, 0, 3, 5],
-            ),
-            (
-                Entry::train(station, 0, 1, 0, 0),
-                [2, 3, 2, 4, 5],
-                [3, 1, 4, 5],
-            ),
-            (
-                Entry::train(station, 0, 1, 0, 3),
-                [2, 3, 8, 0, 5],
-                [0, 7, 3, 5],
-            ),
-            (
-                Entry::train(station, 0, 1, 0, 1),
-                [2, 3, 1, 0, 5],
-                [0, 0, 1, 5],
-            ),
+            (back(3), [2, 3, 0, 4, 5], [0, 0, 3, 5]),
+            (back(3), [2, 3, 0, 1, 5], [0, 0, 3, 5]),
+            (train(0), [2, 3, 2, 4, 5], [3, 1, 4, 5]),
+            (train(3), [2, 3, 8, 0, 5], [0, 7, 3, 5]),
+            (train(1), [2, 3, 1, 0, 5], [0, 0, 1, 5]),
         ] {
             let mut register = Register::begun();
             let desk = register.section.desk_mut(station);

@@ -1,11 +1,11 @@
 //! What each shape of departure asks of its desk, and what it does.
 
 use crate::desk::{
-    ASKED, FORMS_ALL, FORM_ONE, GUEST, HOLDS, HOLDS_ONE, IDLE, OUT, OWES, OWES_ONE, SENT, SENT_ALL,
-    SENT_NONE, SENT_ONE, WAITING, WAITING_ONE,
+    ASKED, ENGINE, FORMS_ALL, FORM_ONE, GUEST, HOLDS, HOLDS_ONE, IDLE, OUT, OWES, OWES_ONE, SENT,
+    SENT_ALL, SENT_NONE, SENT_ONE, WAITING, WAITING_ONE,
 };
 use crate::reading::{self, low_bit, Ranges, BOTH, GRANTED, OPEN};
-use crate::vehicle::{Effect, ENGINE};
+use crate::vehicle::Effect;
 
 /// A field of an entry, shifted down.
 #[derive(Clone, Copy)]

@@ -1,15 +1,12 @@
 //! A vehicle carries the receipts that take it and what they do to the desk.
 
 use crate::departure::Departure;
+use crate::desk::ENGINE;
 
 /// A receipt is the word of the RECEIVE that takes the vehicle, with no time.
 pub const TIME: u64 = 0xFFFF << 24;
 /// From the receipt at one station to that at the other.
 pub const OTHER: u64 = 3 << 40;
-
-/// No figure of a desk: it stands in what the other station's receipt keeps where
-/// the vehicle left on OPEN or THROUGH, and tells it from a RETURN or TRAIN.
-pub const ENGINE: u64 = 0x40_0000;
 
 /// The receipt by which a station, given by its number, takes the first vehicle
 /// that it sent.

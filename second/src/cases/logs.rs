@@ -307,7 +307,7 @@ fn refused_throughout() -> Vec<Entry> {
         Entry::through(A, 95, 1),
         Entry::send_back(A, 95, 0, 0),
         Entry::train(A, 95, 1, 0, 4),
-        // The reply goes ahead, and with the last train there is none to give.
+        // The reply goes ahead, and no other follows it while A owes.
         Entry::train(A, 95, 1, 0, 2),
         Entry::train(A, 124, 1, 0, 0),
         Entry::receive(A, 124, A, 2),

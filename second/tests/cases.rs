@@ -250,6 +250,47 @@ fn ill_made_sections_by_hand() {
 }
 
 #[test]
+fn line_clears_waiting_by_hand() {
+    // A train of A, form 7, with a grant of 2 comes to B, where 5 wait.
+    let train = &[5, 0, 2, 1, 0, 7, 2, 0, 0][..];
+    let receive = [0x87, 6, 2, 0, 50, 1, 0, 7];
+    let at_a = (DESK_A, &[0, 9, 0, 7, 1, 1, 0, 9][..]);
+    // Holds, owes and waiting are the last three figures of B's desk.
+    let before = |holds, owes, waiting| {
+        let at_b = [0, 40, 0, 3, 2, 1, 0, 40, 0, 0, 4, holds, owes, waiting];
+        figures(&[(0, train), (PRESENT, &[1, 1]), at_a, (DESK_B, &at_b)])
+    };
+    let after = |holds, owes, waiting| {
+        let at_b = [0, 50, 0, 3, 0, 0, 0, 0, 0, 0, 4, holds, owes, waiting];
+        figures(&[(IN_FORCE, &[1]), at_a, (DESK_B, &at_b)])
+    };
+    expect_step(&before(0, 3, 5), &receive, "ok 0 0 -", &after(0, 2, 2));
+    expect_step(&before(0, 1, 5), &receive, "ok 0 0 -", &after(2, 0, 0));
+    expect_step(&before(8, 0, 0), &receive, "ok 0 0 -", &after(2, 0, 0));
+    expect_step(&before(8, 3, 0), &receive, "ok 0 0 -", &after(8, 2, 2));
+    let nine = before(0, 3, 9);
+    expect_step(&nine, &receive, "no 5", &nine);
+    assert_eq!(nine[257], 9);
+}
+
+#[test]
+fn sections_have_line_clears_waiting_at_either_station() {
+    for station in Station::BOTH {
+        let waiting: BTreeSet<u8> = CASES
+            .iter()
+            .filter_map(|case| match case {
+                Case::Step { section, .. } => Some(section.desk(station).waiting),
+                _ => None,
+            })
+            .collect();
+        assert!(
+            (0..=9).all(|figure| waiting.contains(&figure)),
+            "{waiting:?}"
+        );
+    }
+}
+
+#[test]
 fn form_9999_and_a_count_at_its_largest_by_hand() {
     let through = [0x1F, 3, 1, 0, 9, 3, 1];
     let before = figures(&[(IN_FORCE, &[1]), (DESK_A, &[0, 9, 0x27, 0x0E, 11])]);
@@ -425,7 +466,7 @@ fn the_input_is_read_back() {
     let input = input(&CASES);
     assert_eq!(parsed(&input), *CASES);
     assert_eq!(all(), *CASES);
-    assert!(input.len() < 250_000, "{}", input.len());
+    assert!(input.len() < 260_000, "{}", input.len());
 }
 
 #[test]
@@ -591,7 +632,7 @@ fn the_positions_have_every_outcome() {
 #[test]
 fn the_expected_output_keeps_its_size() {
     let expected = expected(&CASES);
-    assert!(expected.len() < 900_000, "{}", expected.len());
+    assert!(expected.len() < 1_050_000, "{}", expected.len());
     assert!(expected.ends_with('\n'));
     let starts = ["log ", "step ", "write ", "read "];
     let started = expected

@@ -6,8 +6,8 @@ use std::sync::LazyLock;
 
 use second::generator::{log, Options};
 use second::{
-    entry_length, list, Accepted, Edition, Entry, Kind, Line, Refusal, Run, Section, Speed,
-    Station, LONGEST_LOG,
+    entry_length, list, Accepted, Desk, Edition, Entry, Kind, Line, Refusal, Run, Section, Speed,
+    Station, Vehicle, LONGEST_LOG,
 };
 
 /// Logs of the lister's size: these six have to be enough for all claims.
@@ -155,11 +155,10 @@ fn name_entry(
                 desk.holds == 1 && desk.sent == 7,
                 "eighth train of a series",
             );
-            let left = ["none", "some"][usize::from(desk.holds > 1)];
-            name(
-                entry.granted > 0,
-                &format!("Train grants and leaves {left}"),
-            );
+            let ahead = entry.granted > 0 && desk.holds > 1;
+            name(ahead, "a reply ahead of the last train");
+            let with_the_last = entry.granted > 0 && desk.holds == 1;
+            name(with_the_last, "a reply with the last train");
         }
         Kind::Meet => {
             let named = before
@@ -172,20 +171,7 @@ fn name_entry(
             name(nearer_a.met && nearer_b.met, "meeting of two that met");
             name(true, &format!("meeting towards {}", station.letter()));
         }
-        Kind::Receive => {
-            let own = entry.station == entry.sender;
-            let nearest = before.nearest(station).unwrap();
-            let left_on = nearest.left_on.unwrap();
-            name(own, &format!("own {left_on:?} back, met {}", nearest.met));
-            name(
-                !own,
-                &format!("{left_on:?} of the other, met {}", nearest.met),
-            );
-            let stale = !own && left_on == Kind::Train && nearest.asked == 0 && desk.asked > 0;
-            name(stale, "an enquiry outlives a train without one");
-            let asks_more = left_on == Kind::Train && nearest.asked > 0 && desk.waiting > 0;
-            name(asks_more, "an enquiry comes in while clears wait");
-        }
+        Kind::Receive => name_receipt(entry, desk, before.nearest(station).unwrap(), name),
         Kind::Resume => {
             let owes = before.desks.iter().any(|desk| desk.owes > 0);
             name(owes, "resumed though a clear is owed");
@@ -194,6 +180,22 @@ fn name_entry(
         }
         Kind::Begin => name(before.refused.total() > 0, "begun with refusals counted"),
     }
+}
+
+/// At the desk as it was before it, of the vehicle that then stood nearest.
+fn name_receipt(entry: &Entry, desk: &Desk, nearest: &Vehicle, name: &mut impl FnMut(bool, &str)) {
+    let own = entry.station == entry.sender;
+    let left_on = nearest.left_on.unwrap();
+    name(own, &format!("own {left_on:?} back, met {}", nearest.met));
+    name(
+        !own,
+        &format!("{left_on:?} of the other, met {}", nearest.met),
+    );
+    let train = left_on == Kind::Train;
+    let stale = train && nearest.asked == 0 && desk.asked > 0;
+    name(stale, "an enquiry outlives a train without one");
+    let asks_more = train && nearest.asked > 0 && desk.waiting > 0;
+    name(asks_more, "an enquiry comes in while clears wait");
 }
 
 fn places_wished_for() -> BTreeSet<String> {
@@ -239,8 +241,8 @@ fn places_wished_for() -> BTreeSet<String> {
         "Return of the other, met false",
         "Train of the other, met false",
         "an enquiry outlives a train without one",
-        "Train grants and leaves none",
-        "Train grants and leaves some",
+        "a reply ahead of the last train",
+        "a reply with the last train",
         "an enquiry comes in while clears wait",
         "resumed though a clear is owed",
         "resumed though clears wait",

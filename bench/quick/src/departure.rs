@@ -1,8 +1,8 @@
 //! What each shape of departure asks of its desk, and what it does.
 
 use crate::desk::{
-    ASKED, FORMS_ALL, FORM_ONE, GUEST, HOLDS, HOLDS_ONE, IDLE, OUT, OWES, OWES_ONE, SENT, SENT_ALL,
-    SENT_NONE, SENT_ONE,
+    ASKED, ENGINE, FORMS_ALL, FORM_ONE, GUEST, HOLDS, HOLDS_ONE, IDLE, OUT, OWES, OWES_ONE, SENT,
+    SENT_ALL, SENT_NONE, SENT_ONE, WAITING, WAITING_ONE,
 };
 use crate::reading::{self, low_bit, Ranges, BOTH, GRANTED, OPEN};
 use crate::vehicle::Effect;
@@ -101,16 +101,12 @@ impl Departure {
         let asks = map & reading::ASKED != 0;
         let grants = map & GRANTED != 0;
         let first = if returns { 5 } else { 6 };
-        // A TRAIN that grants may leave no line clear held. Not in force there is
+        // A TRAIN grants only where its station owes none. Not in force there is
         // neither guest nor line clear, so one test serves for 7 too.
-        let held = if returns {
-            HOLDS
-        } else {
-            only(grants, HOLDS - HOLDS_ONE)
-        };
+        let clears = if returns { HOLDS } else { only(grants, OWES) };
         Departure {
             ranges: Ranges::of(map),
-            bars: held | USED_UP,
+            bars: clears | USED_UP,
             needs: if returns { GUEST } else { HOLDS },
             keep: !(only(returns, GUEST | ASKED) | only(grants, OWES | ASKED)),
             add: SENT_ONE + FORM_ONE - only(!returns, HOLDS_ONE),
@@ -126,10 +122,15 @@ impl Departure {
             },
             class: 0,
             taken_back: None,
-            // A TRAIN finds one owed: a station owes as many as the other has
-            // trains in the section, by demand 3.
+            // A TRAIN finds one owed: a station owes at least as many as the other
+            // has trains in the section, by demand 3. A grant takes the place of
+            // what waits.
             received: Effect {
-                keep: !(SENT | HOLDS | only(asks, ASKED) | only(returns, OUT)) as i32,
+                keep: !(ENGINE
+                    | SENT
+                    | only(grants, WAITING)
+                    | only(asks, ASKED)
+                    | only(returns, OUT)) as i32,
                 add: (SENT_NONE - only(!returns, OWES_ONE)) as i32,
             },
         }
@@ -153,7 +154,7 @@ impl Departure {
     /// What its receipt does at the other station.
     #[inline(always)]
     pub const fn received_of(&self, entry: u64) -> Effect {
-        let clears = self.asked.of(entry) + self.granted.of(entry) * HOLDS_ONE;
+        let clears = self.asked.of(entry) + self.granted.of(entry) * WAITING_ONE;
         Effect {
             keep: self.received.keep,
             add: self.received.add + (clears | entry & self.class) as i32,

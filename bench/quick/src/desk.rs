@@ -14,9 +14,14 @@ pub const OWES: u64 = 0xF000;
 pub const SENT: u64 = 0x1F_0000;
 /// Not in force.
 pub const IDLE: u64 = 0x20_0000;
+/// No figure, and 0 at every desk: the other station's receipt of an OPEN or THROUGH
+/// keeps it, that of a RETURN or TRAIN does not, and so they are told apart.
+pub const ENGINE: u64 = 0x40_0000;
+pub const WAITING: u64 = 0xF00_0000;
 
 pub const HOLDS_ONE: u64 = 0x10;
 pub const OWES_ONE: u64 = 0x1000;
+pub const WAITING_ONE: u64 = 0x100_0000;
 /// Sent is counted from 4, so that its highest bit stands where it is 12.
 pub const SENT_ONE: u64 = 0x1_0000;
 pub const SENT_NONE: u64 = 4 * SENT_ONE;
@@ -25,6 +30,19 @@ pub const SENT_ALL: u64 = 16 * SENT_ONE;
 pub const FORM_ONE: u64 = 1 << 32;
 pub const FORM_NONE: u64 = (FORMS_ALL / FORM_ONE - 9_999) * FORM_ONE;
 pub const FORMS_ALL: u64 = FORM_ONE << 14;
+
+/// The figures at the end of a receipt: line clears that wait are held, where none
+/// is owed. Where some wait none is held, so that a sum will do: the other station
+/// owed none when it gave them.
+#[inline(always)]
+pub const fn settled(figures: u64) -> u64 {
+    let waiting = if figures & OWES == 0 {
+        figures & WAITING
+    } else {
+        0
+    };
+    figures - waiting + waiting / (WAITING_ONE / HOLDS_ONE)
+}
 
 /// The figures after BEGIN.
 pub const BEGUN: u64 = SENT_NONE | FORM_NONE;

@@ -1,7 +1,7 @@
 //! A vehicle carries the receipts that take it and what they do to the desk.
 
 use crate::departure::Departure;
-use crate::desk::HOLDS;
+use crate::desk::ENGINE;
 
 /// A receipt is the word of the RECEIVE that takes the vehicle, with no time.
 pub const TIME: u64 = 0xFFFF << 24;
@@ -70,8 +70,7 @@ impl Vehicle {
     pub fn is_engine_to(&self, station: usize) -> bool {
         let unmet = self.receipts[station ^ 1] != 0;
         let heads = self.receipts[station] != 0 && !(unmet && self.sender() == station);
-        // The receipt of a RETURN or TRAIN sets holds.
-        heads && self.effects[self.sender() ^ 1].keep & HOLDS as i32 != 0
+        heads && self.effects[self.sender() ^ 1].keep & ENGINE as i32 != 0
     }
 
     /// Met, and heading to the station.

@@ -1,7 +1,7 @@
 //! Why an entry is refused, for the listing.
 
 use crate::departure::Departure;
-use crate::desk::{ASKED, GUEST, HOLDS, HOLDS_ONE, OUT, OWES, SENT_ALL};
+use crate::desk::{ASKED, GUEST, HOLDS, OUT, OWES, SENT_ALL};
 use crate::reading::{byte, BOTH, MEET, OPEN, PLAIN, RANGES, RECEIVE, RETURN, THROUGH, TRAIN};
 use crate::section::{station_of, time_of, Section};
 use crate::text::letter;
@@ -116,6 +116,6 @@ fn departing(figures: u64, entry: u64, kind: usize) -> usize {
 
 fn grants_too_much(figures: u64, entry: u64, kind: usize) -> bool {
     let granted = Departure::of(byte(entry, 0)).granted.of(entry);
-    let more_held = kind == 5 && figures & HOLDS > HOLDS_ONE;
-    granted > figures & ASKED || granted > 0 && more_held
+    let owes = kind == 5 && figures & OWES != 0;
+    granted > figures & ASKED || granted > 0 && owes
 }

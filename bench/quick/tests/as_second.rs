@@ -91,20 +91,53 @@ fn cut(mut log: Vec<u8>, random: &mut Random) -> Vec<u8> {
     log
 }
 
+/// Compares a log as it is and damaged in each way.
+fn same_though_damaged(log: Vec<u8>, random: &mut Random) {
+    same(&log);
+    same(&with_other_bytes(log.clone(), random));
+    same(&with_other_bits(log.clone(), random));
+    same(&with_a_gap(log.clone(), random));
+    same(&cut(log, random));
+}
+
 #[test]
 fn generated_and_damaged_logs() {
     let mut random = Random::new(1);
     for seed in 0..240 {
         for options in sorts() {
             let entries = random.below(240) as usize;
-            let log = log(seed, entries, options);
-            same(&log);
-            same(&with_other_bytes(log.clone(), &mut random));
-            same(&with_other_bits(log.clone(), &mut random));
-            same(&with_a_gap(log.clone(), &mut random));
-            same(&cut(log, &mut random));
+            same_though_damaged(log(seed, entries, options), &mut random);
         }
     }
+}
+
+/// Whether line clears wait in some state of the log.
+fn clears_wait_in(log: &[u8]) -> bool {
+    let mut run = Run::new(log);
+    while run.next().is_some() {
+        if run.section().desks.iter().any(|desk| desk.waiting > 0) {
+            return true;
+        }
+    }
+    false
+}
+
+/// Replies are sent ahead of the last train. A section that is kept full has no
+/// trains to send them with.
+#[test]
+fn logs_in_which_line_clears_wait() {
+    let mut random = Random::new(4);
+    let mut waiting = 0;
+    for seed in 1_000..1_300 {
+        for options in sorts().into_iter().filter(|options| !options.full) {
+            let log = log(seed, 300, options);
+            if clears_wait_in(&log) {
+                waiting += 1;
+                same_though_damaged(log, &mut random);
+            }
+        }
+    }
+    assert!(waiting > 400, "{waiting}");
 }
 
 #[test]

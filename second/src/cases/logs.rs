@@ -11,10 +11,10 @@ use crate::section::{Section, Station};
 const ENTRIES: usize = 60;
 
 /// Seeds of logs with refusals among their entries.
-const SEEDS: [u64; 8] = [1, 2, 3, 5, 8, 13, 21, 34];
+const SEEDS: [u64; 8] = [1, 2, 4, 7, 10, 13, 21, 34];
 
 /// Seeds of logs that are accepted throughout.
-const ACCEPTED_SEEDS: [u64; 4] = [1, 2, 3, 4];
+const ACCEPTED_SEEDS: [u64; 4] = [5, 7, 9, 4];
 
 pub(super) fn cases() -> Vec<Case> {
     let mut logs = vec![SESSION.concat(), Vec::new()];
@@ -53,6 +53,8 @@ fn accepted() -> Vec<Vec<Entry>> {
     vec![
         every_kind(),
         trains_with_grants(),
+        replies_ahead(),
+        mirrored(&replies_ahead()),
         mirrored(&guests()),
         meetings(),
         meetings_of_one_sender(),
@@ -121,6 +123,37 @@ fn trains_with_grants() -> Vec<Entry> {
         // A holds 6 and stands asked for 2; the enquiry outlives this train.
         Entry::train(A, 205, 1, 5, 0),
         Entry::receive(B, 400, A, 3),
+    ]
+}
+
+/// Replies that ride ahead of the last train of their series (T-02).
+fn replies_ahead() -> Vec<Entry> {
+    vec![
+        Entry::begin(),
+        Entry::open(A, 0, 1, 1, 3),
+        Entry::receive(B, 0, A, 1),
+        Entry::send_back(B, 0, 4, 3),
+        Entry::receive(A, 0, B, 1),
+        // The first of three grants four, and the last asks for two.
+        Entry::train(A, 0, 1, 0, 4),
+        Entry::train(A, 30, 1, 0, 0),
+        // The four wait while B owes two and one.
+        Entry::receive(B, 50, A, 2),
+        Entry::receive(B, 50, A, 3),
+        Entry::train(A, 60, 1, 2, 0),
+        Entry::receive(B, 100, A, 4),
+        // B holds four. The second of its trains grants two.
+        Entry::train(B, 100, 1, 0, 0),
+        Entry::train(B, 130, 1, 8, 2),
+        Entry::receive(A, 90, B, 2),
+        Entry::receive(A, 120, B, 3),
+        // The two wait while A owes two, and end with the working.
+        Entry::resume(),
+        Entry::begin(),
+        Entry::open(A, 0, 1, 1, 1),
+        Entry::receive(B, 0, A, 1),
+        Entry::send_back(B, 0, 0, 1),
+        Entry::receive(A, 0, B, 1),
     ]
 }
 
@@ -213,6 +246,7 @@ fn refused() -> Vec<Vec<Entry>> {
     vec![
         refused_throughout(),
         mirrored(&refused_throughout()),
+        refused_while_clears_wait(),
         refused_meetings(),
         twelve_of_each(),
     ]
@@ -273,7 +307,7 @@ fn refused_throughout() -> Vec<Entry> {
         Entry::through(A, 95, 1),
         Entry::send_back(A, 95, 0, 0),
         Entry::train(A, 95, 1, 0, 4),
-        // The reply goes ahead, and with the last train there is none to give.
+        // The reply goes ahead, and no other follows it while A owes.
         Entry::train(A, 95, 1, 0, 2),
         Entry::train(A, 124, 1, 0, 0),
         Entry::receive(A, 124, A, 2),
@@ -283,6 +317,29 @@ fn refused_throughout() -> Vec<Entry> {
         Entry::resume(),
     ]);
     entries
+}
+
+/// A's first train of two carries a reply for two.
+fn refused_while_clears_wait() -> Vec<Entry> {
+    vec![
+        Entry::begin(),
+        Entry::open(A, 0, 1, 1, 2),
+        Entry::receive(B, 0, A, 1),
+        Entry::send_back(B, 0, 2, 2),
+        Entry::receive(A, 0, B, 1),
+        Entry::train(A, 0, 1, 0, 2),
+        Entry::receive(B, 20, A, 2),
+        // The two wait at B, which owes one more: 15 and 12.
+        Entry::train(B, 20, 1, 0, 0),
+        Entry::through(B, 20, 1),
+        // A owes: 16.
+        Entry::train(A, 30, 1, 0, 1),
+        Entry::train(A, 30, 1, 0, 0),
+        Entry::receive(B, 50, A, 3),
+        // B holds them: 11.
+        Entry::through(B, 50, 1),
+        Entry::train(B, 50, 1, 0, 0),
+    ]
 }
 
 fn refused_meetings() -> Vec<Entry> {
@@ -495,6 +552,8 @@ mod tests {
         ];
         assert_eq!(numbers(&refused_throughout()), throughout);
         assert_eq!(numbers(&mirrored(&refused_throughout())), throughout);
+        let waiting = [0, 0, 0, 0, 0, 0, 0, 15, 12, 16, 0, 0, 11, 0];
+        assert_eq!(numbers(&refused_while_clears_wait()), waiting);
         let meetings = [
             7, 0, 22, 0, 22, 0, 22, 0, 22, 22, 0, 22, 20, 20, 0, 0, 0, 21, 20, 0, 0, 0, 0, 22,
         ];
@@ -502,6 +561,31 @@ mod tests {
         let twelve = numbers(&twelve_of_each());
         assert!(twelve[..25].iter().all(|&answer| answer == 0));
         assert_eq!(twelve[25..], [17, 17, 0, 0, 0, 8]);
+    }
+
+    /// Line clears waiting at A and at B after each entry.
+    fn waiting(log: &[u8]) -> Vec<(u8, u8)> {
+        let mut run = Run::new(log);
+        let mut waiting = Vec::new();
+        while run.next().is_some() {
+            let [a, b] = &run.section().desks;
+            waiting.push((a.waiting, b.waiting));
+        }
+        waiting
+    }
+
+    #[test]
+    fn clears_wait_at_the_other_end_until_its_last_train_is_in() {
+        let mut expected = vec![(0, 0); 21];
+        expected[7..=9].fill((0, 4));
+        expected[14] = (2, 0);
+        assert_eq!(waiting(&written(&replies_ahead())), expected);
+        let mirror = expected.iter().map(|&(a, b)| (b, a)).collect::<Vec<_>>();
+        assert_eq!(waiting(&written(&mirrored(&replies_ahead()))), mirror);
+        let mut expected = vec![(0, 0); 14];
+        expected[6..=10].fill((0, 2));
+        let list = written(&refused_while_clears_wait());
+        assert_eq!(waiting(&list), expected);
     }
 
     #[test]
@@ -554,5 +638,8 @@ mod tests {
             assert_eq!(answers.len(), ENTRIES);
             assert!(answers.iter().all(|answer| answer.1 == 0));
         }
+        let clears_wait = |log: &&Vec<u8>| waiting(log).iter().any(|&clears| clears != (0, 0));
+        let with_clears_waiting = logs.iter().filter(clears_wait).count();
+        assert!(with_clears_waiting >= 5, "{with_clears_waiting}");
     }
 }

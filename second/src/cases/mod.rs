@@ -11,6 +11,7 @@ mod counts;
 mod logs;
 mod positions;
 mod sections;
+mod waiting;
 mod writer;
 
 use std::fmt::{self, Write};

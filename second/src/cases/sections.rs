@@ -3,7 +3,7 @@
 use std::collections::BTreeMap;
 
 use super::counts::{self, DISTINCT};
-use super::{Case, LONGEST, NO_ENTRIES};
+use super::{waiting, Case, LONGEST, NO_ENTRIES};
 use crate::entry::{decode, Entry, Kind};
 use crate::generator::{any_section, bytes_of, Generator, Options};
 use crate::random::Random;
@@ -33,6 +33,7 @@ pub(super) fn cases() -> Vec<Case> {
     handed.extend(crammed_cases());
     handed.extend(desks_at_their_limits());
     handed.extend(receipts());
+    handed.extend(waiting::handed());
     handed.extend(meetings());
     handed.extend(counts::handed());
     handed.extend(edges());
@@ -49,7 +50,7 @@ pub(super) fn hand(section: Section, entry: &Entry) -> Handed {
 }
 
 /// An unmet vehicle on its way, with figures that fit what it left on.
-fn vehicle(kind: Kind, sender: Station, form: u16) -> Vehicle {
+pub(super) fn vehicle(kind: Kind, sender: Station, form: u16) -> Vehicle {
     Vehicle {
         left_on: Some(kind),
         sender: sender.number(),
@@ -169,7 +170,7 @@ fn ill_made() -> Vec<Handed> {
 }
 
 fn ill_made_desks(station: Station) -> Vec<Handed> {
-    let alterations: [fn(&mut Desk); 11] = [
+    let alterations: [fn(&mut Desk); 13] = [
         |desk| desk.last_form = 10_000,
         |desk| desk.sent = 13,
         |desk| desk.sent = u8::MAX,
@@ -178,6 +179,8 @@ fn ill_made_desks(station: Station) -> Vec<Handed> {
         |desk| desk.holds = 9,
         |desk| desk.owes = 9,
         |desk| desk.owes = u8::MAX,
+        |desk| desk.waiting = 9,
+        |desk| desk.waiting = u8::MAX,
         |desk| desk.interval = Some(501),
         |desk| desk.interval = Some(u16::MAX),
         // The other desk's clock is later, which is never compared.
@@ -387,7 +390,7 @@ fn ill_made_places() -> Vec<Handed> {
 /// wipe it out.
 fn not_in_force() -> Vec<Handed> {
     let mut sections = Vec::new();
-    let alterations: [fn(&mut Desk); 9] = [
+    let alterations: [fn(&mut Desk); 10] = [
         |desk| desk.clock = 1,
         |desk| desk.last_form = 1,
         |desk| desk.sent = 1,
@@ -397,6 +400,7 @@ fn not_in_force() -> Vec<Handed> {
         |desk| desk.asked = 1,
         |desk| desk.holds = 1,
         |desk| desk.owes = 1,
+        |desk| desk.waiting = 1,
     ];
     for station in Station::BOTH {
         for alteration in alterations {
@@ -550,7 +554,7 @@ fn crammed_cases() -> Vec<Handed> {
 }
 
 /// A desk in a section that is in force and empty.
-fn at_desk(station: Station, desk: Desk) -> Section {
+pub(super) fn at_desk(station: Station, desk: Desk) -> Section {
     let mut section = begun();
     *section.desk_mut(station) = desk;
     section
@@ -726,7 +730,11 @@ fn desk_at_its_limits(station: Station) -> Vec<Handed> {
 
 /// A section with one vehicle, at a desk of the receiving station where no
 /// figure is 0 or at its largest.
-fn one_vehicle(vehicle: Vehicle, station: Station, change: impl Fn(&mut Desk)) -> Section {
+pub(super) fn one_vehicle(
+    vehicle: Vehicle,
+    station: Station,
+    change: impl Fn(&mut Desk),
+) -> Section {
     let mut section = begun();
     put_vehicles(&mut section, &[vehicle]);
     for desk in &mut section.desks {
@@ -906,6 +914,7 @@ fn edges() -> Vec<Handed> {
         holds: 8,
         out: true,
         owes: 2,
+        waiting: 8,
         ..Desk::default()
     };
     handed.push(hand(at_desk(B, desk), &Entry::resume()));

@@ -5,7 +5,7 @@ use Rattle.working.proofs.Computing.{turns-compute}
 use Rattle.working.specs.Sections.{fresh}
 use Rattle.working.specs.Turns.{answersIn, turnsOf}
 use Rattle.working.specs.declared.Answer.the-variants.{Accepted, Refused}
-use Rattle.working.specs.declared.Refusal.the-variants.{AlreadyInForce, BeforeClock, EndsInside, HoldsLineClear, MayNotMeet, NoGuest, NoLineClear, NotInForce, NotNearest, OpenerAway, OutOfRange, UnknownKind, WrongMap}
+use Rattle.working.specs.declared.Refusal.the-variants.{AlreadyInForce, BeforeClock, EndsInside, GrantNotAllowed, HoldsLineClear, IntervalRunning, MayNotMeet, NoGuest, NoLineClear, NotInForce, NotNearest, OpenerAway, OutOfRange, OwesLineClear, UnknownKind, WrongMap}
 use Rattle.working.specs.declared.Speed.the-variants.{Booked, Kmh, NoSpeed, Walking}
 use mathlib.Core.List.{List, [], _∷_}
 use mathlib.Core.Path.{_≡_, refl}
@@ -78,6 +78,29 @@ answers-21 : answersIn (turnsOf fresh log-21) ≡
     ∷ []
 unfolding turns-compute
 answers-21 = refl
+
+abbrev log-27 : List ℕ
+log-27 =
+    1 ∷ 1 ∷ 63 ∷ 2 ∷ 2 ∷ 0 ∷ 0 ∷ 2 ∷ 4 ∷ 8 ∷ 31 ∷ 3 ∷ 1 ∷ 0 ∷ 0 ∷ 2 ∷ 1 ∷ 135 ∷ 6 ∷ 2 ∷ 0 ∷ 0 ∷ 2 ∷ 0
+    ∷ 1 ∷ 63 ∷ 2 ∷ 2 ∷ 0 ∷ 0 ∷ 3 ∷ 2 ∷ 3 ∷ 135 ∷ 6 ∷ 2 ∷ 0 ∷ 0 ∷ 1 ∷ 0 ∷ 2 ∷ 131 ∷ 7 ∷ 1 ∷ 1 ∷ 0 ∷ 1 ∷ 135
+    ∷ 6 ∷ 1 ∷ 0 ∷ 2 ∷ 1 ∷ 0 ∷ 1 ∷ 135 ∷ 6 ∷ 1 ∷ 0 ∷ 6 ∷ 2 ∷ 0 ∷ 2 ∷ 135 ∷ 6 ∷ 2 ∷ 0 ∷ 2 ∷ 1 ∷ 0 ∷ 0 ∷ 103
+    ∷ 4 ∷ 1 ∷ 0 ∷ 6 ∷ 6 ∷ 3 ∷ 135 ∷ 6 ∷ 2 ∷ 0 ∷ 0 ∷ 1 ∷ 0 ∷ 2 ∷ 79 ∷ 5 ∷ 2 ∷ 0 ∷ 1 ∷ 1 ∷ 3 ∷ 47 ∷ 5 ∷ 2
+    ∷ 0 ∷ 0 ∷ 2 ∷ 1 ∷ 135 ∷ 6 ∷ 1 ∷ 0 ∷ 11 ∷ 2 ∷ 0 ∷ 3 ∷ 47 ∷ 5 ∷ 2 ∷ 0 ∷ 30 ∷ 1 ∷ 6 ∷ 79 ∷ 5 ∷ 2 ∷ 0 ∷ 33
+    ∷ 2 ∷ 1 ∷ 15 ∷ 5 ∷ 2 ∷ 0 ∷ 31 ∷ 3 ∷ 31 ∷ 3 ∷ 1 ∷ 0 ∷ 13 ∷ 2 ∷ 1 ∷ 15 ∷ 5 ∷ 2 ∷ 0 ∷ 69 ∷ 3 ∷ 135 ∷ 6 ∷ 1
+    ∷ 0 ∷ 14 ∷ 2 ∷ 0 ∷ 4 ∷ 135 ∷ 6 ∷ 1 ∷ 0 ∷ 14 ∷ 2 ∷ 0 ∷ 5 ∷ 71 ∷ 4 ∷ 2 ∷ 0 ∷ 99 ∷ 1 ∷ 47 ∷ 5 ∷ 1 ∷ 0 ∷ 14
+    ∷ 1 ∷ 6 ∷ 47 ∷ 5 ∷ 1 ∷ 0 ∷ 44 ∷ 2 ∷ 7 ∷ 63 ∷ 2 ∷ 2 ∷ 0
+    ∷ []
+
+answers-27 : answersIn (turnsOf fresh log-27) ≡
+    Accepted 0 0 NoSpeed ∷ Accepted 1 7 (Kmh 10) ∷ Accepted 1 1 (Kmh 10) ∷ Accepted 0 0 NoSpeed ∷ Accepted 2 7 Walking
+    ∷ Refused NotNearest ∷ Accepted 0 0 NoSpeed ∷ Accepted 0 0 NoSpeed ∷ Accepted 0 0 NoSpeed ∷ Refused OutOfRange
+    ∷ Accepted 2 174 Booked ∷ Accepted 0 0 NoSpeed ∷ Accepted 3 180 Booked ∷ Refused BeforeClock ∷ Accepted 0 0 NoSpeed
+    ∷ Refused IntervalRunning ∷ Refused GrantNotAllowed ∷ Accepted 4 112 (Kmh 10) ∷ Refused OwesLineClear ∷ Accepted 5 112 (Kmh 10)
+    ∷ Accepted 0 0 NoSpeed ∷ Accepted 0 0 NoSpeed ∷ Refused NoGuest ∷ Accepted 3 170 Booked ∷ Accepted 4 106 (Kmh 10)
+    ∷ Refused EndsInside
+    ∷ []
+unfolding turns-compute
+answers-27 = refl
 
 abbrev log-34 : List ℕ
 log-34 =

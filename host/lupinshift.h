@@ -25,7 +25,7 @@ extern "C" {
 #define LUPIN_LISTING_ROOM(n) ((size_t)(n) > LUPIN_LONGEST_LOG ? (size_t)428 : 25 * (size_t)(n) + 428)
 
 /* How many numbers say where a listing in blocks stands. */
-#define LUPIN_STATE_WORDS 93
+#define LUPIN_STATE_WORDS 95
 
 /* How many figures the last line of a listing has. */
 #define LUPIN_FIGURES 10

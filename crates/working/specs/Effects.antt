@@ -1,4 +1,5 @@
--- Document 01, "Each entry's effect": speeds, forms, and the desk after a departure and after a receipt. S is the entry's station, O the other.
+-- Document 01, "Each entry's effect", and T-02 on the reply that a vehicle brings: speeds, forms, and the desk after a departure and after a receipt. S is the entry's
+-- station, O the other.
 use Prim.Native.Nat.{_+_, _-_, ℕ}
 use Rattle.working.specs.Acts as acts
 use Rattle.working.specs.Acts.{Act}
@@ -131,7 +132,7 @@ otherDesk d time class Through = received d time 0
 otherDesk d time class (Return asked granted) = withClears (broughtClears (d .clears) asked (d .clears .owes)) (withOut false (received d time 0))
 otherDesk d time class (Train asked granted) = withClears (broughtClears (d .clears) asked (d .clears .owes - 1)) (received d time 0)
 
--- "every desk figure it alters is S's": whose it is
+-- the receipt's own effect, by whose vehicle it is: "every desk figure it alters is S's"
 abbrev pub takenDesk : Station → Desk → ℕ → Vehicle → Desk
 takenDesk x d time v = cond (eqb (v .sender) (numberAt x)) (ownDesk d time (v .movement)) (otherDesk d time (v .class) (v .movement))
 

@@ -1,4 +1,4 @@
--- Document 01, "Reasons by who causes them": what each kind is refused for, in rising order. Refusals 1 to 4 stand in Entries.
+-- Document 01, "Reasons by who causes them", with T-02 on refusal 16: what each kind is refused for, in rising order. Refusals 1 to 4 stand in Entries.
 use Prim.Native.Nat.{_+_, suc, ℕ}
 use Rattle.working.specs.Acts as acts
 use Rattle.working.specs.Acts.{Act}

@@ -1,6 +1,6 @@
 -- docs/CASES.md: what the figures of a section say, and those of an entry.
 use Prim.Native.Nat.{_*_, _+_, suc, zero, ℕ}
-use Rattle.working.specs.Sections.{freshDesk, withFigures}
+use Rattle.working.specs.Sections.{freshDesk, withFigures, withWaiting}
 use Rattle.working.specs.declared.Clears.{Clears}
 use Rattle.working.specs.declared.Counts.{Counts}
 use Rattle.working.specs.declared.Desk.{Desk}
@@ -57,16 +57,17 @@ placesAt (suc count) figures at = vehicleAt figures at ∷ placesAt count figure
 abbrev pub intervalOf : ℕ → ℕ → Interval
 intervalOf running minute = cond (eqb running 1) (Since minute) Stopped
 
--- "asked 1, holds 1, owes 1, waiting 1"
+-- "asked 1, holds 1, owes 1"
 abbrev pub clearsAt : List ℕ → ℕ → Clears
-clearsAt figures at = record { asked = byteAt figures at; holds = byteAt figures (at + 1); owes = byteAt figures (at + 2); waiting = byteAt figures (at + 3) }
+clearsAt figures at = record { asked = byteAt figures at; holds = byteAt figures (at + 1); owes = byteAt figures (at + 2) }
 
 -- the fourteen bytes of a desk; a figure that they do not give is that of d
 abbrev pub deskAt : List ℕ → ℕ → Desk → Desk
 deskAt figures at d =
-    withFigures (numberAt figures at) (numberAt figures (at + 2)) (byteAt figures (at + 4))
+    withWaiting (byteAt figures (at + 13))
+    (withFigures (numberAt figures at) (numberAt figures (at + 2)) (byteAt figures (at + 4))
     (intervalOf (byteAt figures (at + 5)) (numberAt figures (at + 6)))
-    (eqb (byteAt figures (at + 8)) 1) (byteAt figures (at + 9)) (clearsAt figures (at + 10)) d
+    (eqb (byteAt figures (at + 8)) 1) (byteAt figures (at + 9)) (clearsAt figures (at + 10)) d)
 
 -- entries refused for A, for B, and of no station, four bytes each
 abbrev pub countsAt : List ℕ → ℕ → Counts

@@ -81,16 +81,15 @@ fn interval_in(running: u8, minute: u16) -> Interval
     }
 }
 
-// The four bytes of the line clears at a desk.
+// The three bytes of the line clears at a desk.
 fn clears_in(figures: &Head, at: usize) -> Clears
-    requires { ⌜ at + 4 ≤ longestHead ⌝ }
+    requires { ⌜ at + 3 ≤ longestHead ⌝ }
     ensures { λ r. ⌜ r ≡ clearsAt (now (figures .entry)) at ⌝ }
 {
     Clears {
         asked: figures[at],
         holds: figures[at + 1],
         owes: figures[at + 2],
-        waiting: figures[at + 3],
     }
 }
 
@@ -107,6 +106,7 @@ fn desk_in(figures: &Head, at: usize, other: Desk) -> Desk
         out: figures[at + 8] == 1,
         guest: figures[at + 9],
         clears: clears_in(figures, at + 10),
+        waiting: figures[at + 13],
         ..other
     }
 }
@@ -228,7 +228,7 @@ fn desk_figures(desk: Desk) -> [u8; 14] {
         clears.asked,
         clears.holds,
         clears.owes,
-        clears.waiting,
+        desk.waiting,
     ]
 }
 

@@ -1,8 +1,9 @@
 // What a station has asked for, holds, owes and keeps waiting after an act.
 ghost use Prim.Native.Nat.{_-_};
-ghost use Rattle.working.specs.Effects.{broughtClears, grantedIn, ifAny, openedClears, releasedClears, repliedClears, returnClears, trainClears};
+ghost use Rattle.working.specs.Effects.{broughtClears, grantedIn, ifAny, openedClears, replied, returnClears, trainClears};
 ghost use mathlib.Core.Path.{_≡_};
 use working::Clears;
+use working::Desk;
 use working::Movement;
 
 // One less, and not below 0.
@@ -27,7 +28,6 @@ pub fn return_clears(c: Clears, granted: u8) -> Clears
         asked: 0,
         holds: c.holds,
         owes: if_any(granted, c.owes),
-        waiting: c.waiting,
     }
 }
 
@@ -61,7 +61,6 @@ pub fn brought_clears(c: Clears, asked: u8, owes: u8) -> Clears
         asked: if_any(asked, c.asked),
         holds: c.holds,
         owes,
-        waiting: c.waiting,
     }
 }
 
@@ -77,15 +76,19 @@ pub fn granted_in(movement: Movement) -> u8
     }
 }
 
-// Any vehicle received: what it grants takes the place of what waits, and what waits is held as soon as the station owes nothing.
-pub fn replied_clears(c: Clears, granted: u8) -> Clears
-    ensures { λ r. ⌜ r ≡ releasedClears (repliedClears c granted) ⌝ }
+// The desk after any receipt's reply: what the vehicle grants takes the place of what waits, and what waits is held as soon as the station owes nothing.
+pub fn replied_desk(d: Desk, granted: u8) -> Desk
+    ensures { λ r. ⌜ r ≡ replied granted d ⌝ }
 {
-    let mut after = c;
-    after.waiting = if_any(granted, c.waiting);
-    if c.owes == 0 {
-        after.holds = if_any(after.waiting, c.holds);
-        after.waiting = 0;
+    let clears = d.clears;
+    let waiting = if_any(granted, d.waiting);
+    if clears.owes == 0 {
+        let holds = if_any(waiting, clears.holds);
+        return Desk {
+            clears: Clears { holds, ..clears },
+            waiting: 0,
+            ..d
+        };
     }
-    after
+    Desk { waiting, ..d }
 }

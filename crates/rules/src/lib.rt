@@ -8,7 +8,7 @@ pub use clears::brought_clears;
 pub use clears::granted_in;
 pub use clears::lowered;
 pub use clears::opened_clears;
-pub use clears::replied_clears;
+pub use clears::replied_desk;
 pub use clears::return_clears;
 pub use clears::train_clears;
 pub use orders::OPEN_FORMS;

@@ -70,7 +70,6 @@ pub fn open_verdict(d: Desk) -> Verdict
         asked: _,
         holds,
         owes,
-        waiting: _,
     } = d.clears;
     if d.out {
         return Verdict::Refused(Refusal::OpenerAway);
@@ -95,7 +94,6 @@ pub fn return_verdict(d: Desk, granted: u8) -> Verdict
         asked,
         holds,
         owes: _,
-        waiting: _,
     } = d.clears;
     if 0 < holds {
         return Verdict::Refused(Refusal::HoldsLineClear);
@@ -112,12 +110,7 @@ pub fn return_verdict(d: Desk, granted: u8) -> Verdict
 pub fn train_verdict(d: Desk, granted: u8) -> Verdict
     ensures { λ r. ⌜ r ≡ firstOf (trainTests d granted) ⌝ }
 {
-    let Clears {
-        asked,
-        holds,
-        owes,
-        waiting: _,
-    } = d.clears;
+    let Clears { asked, holds, owes } = d.clears;
     if holds == 0 {
         return Verdict::Refused(Refusal::NoLineClear);
     }

@@ -148,8 +148,8 @@ fn desk_made(d: Desk, t: Tally) -> bool
     let held = d.clears;
     let most = Desk::MOST_TRAINS;
     let counted = (d.last <= Desk::LAST_FORM) & (d.sent <= Desk::MOST_SENT);
-    let clears = (held.holds <= most) & (held.owes <= most) & (held.waiting <= most);
-    let ranges = counted & (d.guest <= Vehicle::LAST_CLASS) & (held.asked <= most) & clears;
+    let clears = (held.asked <= most) & (held.holds <= most) & (held.owes <= most);
+    let ranges = counted & (d.guest <= Vehicle::LAST_CLASS) & clears & (d.waiting <= most);
     ranges & (t.count <= d.sent) & is_not_later(interval, d.clock) & t.numbered
 }
 

@@ -17,7 +17,7 @@ use rules::granted_in;
 use rules::lowered;
 use rules::opened_clears;
 use rules::receive_verdict;
-use rules::replied_clears;
+use rules::replied_desk;
 use rules::station_verdict;
 use section::station_number;
 use words::Words;
@@ -28,6 +28,7 @@ use words::put_clears;
 use words::put_guest;
 use words::put_out;
 use words::put_receipt;
+use words::put_waiting;
 use words::remove;
 use working::Answer;
 use working::Desk;
@@ -101,9 +102,10 @@ fn put_reply(words: &mut Words, at: Station, granted: u8)
     ensures { λ _. ⌜ DeskBecomes (now (words .entry)) (now (words .exit)) at (replied granted) ⌝ }
 {
     let d = desk(words, at);
-    let clears = d.clears;
-    if (0 < granted) | (0 < clears.waiting) {
-        put_clears(words, at, replied_clears(clears, granted));
+    if (0 < granted) | (0 < d.waiting) {
+        let after = replied_desk(d, granted);
+        put_clears(words, at, after.clears);
+        put_waiting(words, at, after.waiting);
     }
 }
 

@@ -53,7 +53,7 @@ pub desk-back : (d : Desk) → intervalNumber (d .interval) ≤ 65536 → Same (
 desk-back d less same =
     let since = interval-back (d .interval) less in
     let out = one-back (d .out) in
-    let clears : Clears = record { asked = d .clears .asked; holds = d .clears .holds; owes = d .clears .owes; waiting = d .clears .waiting } in
+    let clears : Clears = record { asked = d .clears .asked; holds = d .clears .holds; owes = d .clears .owes } in
     let e : deskRead (deskWords d) ≡ withFigures (d .clock) (d .last) (d .sent) (d .interval) (d .out) (d .guest) clears d = cc in
     e
 

@@ -12,7 +12,7 @@
 -- Its second word: what the vehicle left on (0 OPEN, 1 THROUGH, 2 RETURN, 3 TRAIN), granted, asked (a byte each). Two zeros are an unused place.
 use Prim.Native.Nat.{_%_, _*_, _+_, _-_, _/_, _^_, _≤_, min, suc, zero, ℕ}
 use Rattle.working.specs.Reasons.{findOf, mayMeet}
-pub use Rattle.working.specs.Sections.{withClears, withGuest, withOut}
+pub use Rattle.working.specs.Sections.{withClears, withGuest, withOut, withWaiting}
 use Rattle.working.specs.Effects.{received}
 use Rattle.working.specs.Sections.{deskOf, padTo, placeOf, unused, vehiclesOf, withDesk, withEntered, withVehicles}
 use Rattle.working.specs.Steps.{metAt}
@@ -162,7 +162,8 @@ deskRead t = record {
   interval = intervalIn (getD t 3 0);
   out = eqb (getD t 4 0) 1;
   guest = getD t 5 0 % 256;
-  clears = record { asked = getD t 6 0 % 256; holds = getD t 7 0 % 256; owes = getD t 8 0 % 256; waiting = getD t 9 0 % 256 };
+  clears = record { asked = getD t 6 0 % 256; holds = getD t 7 0 % 256; owes = getD t 8 0 % 256 };
+  waiting = getD t 9 0 % 256;
 }
 
 abbrev pub deskWords : Desk → List ℕ

@@ -3,7 +3,7 @@ ghost use Prim.Native.Nat.{_+_, _<_, _≤_};
 ghost use Rattle.words.specs.Stores.{DeskPut};
 ghost use Rattle.words.specs.Words.{Becomes, DeskBecomes, sectionIn, startIn, startPlace, withDeparture, withReceipt};
 ghost use Rattle.words.specs.Words.{countIn, countPlace, deskFrom, deskRead, deskWordsIn, intervalIn};
-ghost use Rattle.working.specs.Sections.{countRefusal, deskOf, oneMore, withClears, withEntered, withGuest, withInterval, withOut};
+ghost use Rattle.working.specs.Sections.{countRefusal, deskOf, oneMore, withClears, withEntered, withGuest, withInterval, withOut, withWaiting};
 ghost use Rattle.working.specs.WellMade.{deskLength};
 ghost use Rattle.working.specs.declared.Interval.the-variants.{Stopped};
 ghost use Rattle.working.specs.declared.Station.the-variants.{B};
@@ -105,8 +105,8 @@ fn stopped_in(words: &[u64]) -> Desk
             asked: (words[ASKED] % BYTE) as u8,
             holds: (words[HOLDS] % BYTE) as u8,
             owes: (words[OWES] % BYTE) as u8,
-            waiting: (words[WAITING] % BYTE) as u8,
         },
+        waiting: (words[WAITING] % BYTE) as u8,
     }
 }
 
@@ -180,14 +180,20 @@ pub fn put_guest(words: &mut Words, at: Station, guest: u8)
     put(words, at, GUEST, guest as u64);
 }
 
-// Trains enquired for and unanswered, line clears held, owed and waiting.
+// Trains enquired for and unanswered, line clears held and owed.
 pub fn put_clears(words: &mut Words, at: Station, c: Clears)
     ensures { λ _. ⌜ DeskBecomes (now (words .entry)) (now (words .exit)) at (withClears c) ⌝ }
 {
     put(words, at, ASKED, c.asked as u64);
     put(words, at, HOLDS, c.holds as u64);
     put(words, at, OWES, c.owes as u64);
-    put(words, at, WAITING, c.waiting as u64);
+}
+
+// Line clears that wait.
+pub fn put_waiting(words: &mut Words, at: Station, waiting: u8)
+    ensures { λ _. ⌜ DeskBecomes (now (words .entry)) (now (words .exit)) at (withWaiting waiting) ⌝ }
+{
+    put(words, at, WAITING, waiting as u64);
 }
 
 // The whole desk.

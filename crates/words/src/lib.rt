@@ -16,6 +16,7 @@ pub use desks::put_departure;
 pub use desks::put_guest;
 pub use desks::put_out;
 pub use desks::put_receipt;
+pub use desks::put_waiting;
 pub use desks::refused;
 pub use kept::fresh_words;
 pub use kept::section_in;

@@ -65,31 +65,32 @@ plain-with s B e l w k = rw (vehicles-with 24 l (w .fits)) (record { own = k .fa
 -- ---- a receipt
 
 -- a grant that comes where nothing is owed after it is held at once
-grant-held : (g : ℕ) (e : Desk) → e .clears .holds ≡ 0 → e .clears .waiting ≡ 0 → (0 < g → e .clears .owes ≡ 0) → replied g e ≡ withHolds g e
+grant-held : (g : ℕ) (e : Desk) → e .clears .holds ≡ 0 → e .waiting ≡ 0 → (0 < g → e .clears .owes ≡ 0) → replied g e ≡ withHolds g e
 grant-held g e none empty pays = by (ltb 0 g) refl
   where
     by : (b : Bool) → ltb 0 g ≡ b → replied g e ≡ withHolds g e
     by true some = rw (some, empty, pays (ltb-true 0 g some), some)
     by false zero = nothing-replied g e (no-test g zero) empty ∙ rw (no-test g zero, ← none)
 
-own-same : (d : Desk) (t : ℕ) (m : Movement) → isOpener m ≡ true → d .clears .waiting ≡ 0 → replied (grantedIn m) (ownDesk d t m) ≡ ownDesk d t m
+own-same : (d : Desk) (t : ℕ) (m : Movement) → isOpener m ≡ true → d .waiting ≡ 0 → replied (grantedIn m) (ownDesk d t m) ≡ ownDesk d t m
 own-same d t (Open a) is empty = nothing-replied 0 _ refl empty
 own-same d t Through is empty = nothing-replied 0 _ refl empty
 own-same d t (Return a g) is empty = absurd (false≢true is)
 own-same d t (Train a g) is empty = absurd (false≢true is)
 
-other-same : (d : Desk) (t class : ℕ) (m : Movement) → d .clears .holds ≡ 0 → d .clears .waiting ≡ 0 → (0 < grantedIn m → otherDesk d t class m .clears .owes ≡ 0)
+other-same : (d : Desk) (t class : ℕ) (m : Movement) → d .clears .holds ≡ 0 → d .waiting ≡ 0 → (0 < grantedIn m → otherDesk d t class m .clears .owes ≡ 0)
     → replied (grantedIn m) (otherDesk d t class m) ≡ withHolds (holdsAfter01 m (d .clears .holds)) (otherDesk d t class m)
 other-same d t class (Open a) none empty pays = nothing-replied 0 _ refl empty
 other-same d t class Through none empty pays = nothing-replied 0 _ refl empty
 other-same d t class (Return a g) none empty pays = grant-held g _ none empty pays
 other-same d t class (Train a g) none empty pays = grant-held g _ none empty pays
 
-own-clears : (d : Desk) (t : ℕ) (m : Movement) → ownDesk d t m .clears ≡ d .clears
-own-clears d t (Open a) = refl
-own-clears d t Through = refl
-own-clears d t (Return a g) = refl
-own-clears d t (Train a g) = refl
+-- before the reply is read, a station's own vehicle leaves the line clears as they were
+own-stays : (d : Desk) (t : ℕ) (m : Movement) → (ownDesk d t m .clears ≡ d .clears) × (ownDesk d t m .waiting ≡ d .waiting)
+own-stays d t (Open a) = (refl, refl)
+own-stays d t Through = (refl, refl)
+own-stays d t (Return a g) = (refl, refl)
+own-stays d t (Train a g) = (refl, refl)
 
 -- a vehicle v that may enter is taken at x: the desk e after it
 module _ (x : Station) (d o : Desk) (time : ℕ) (v : Vehicle) (l : List Vehicle)
@@ -102,12 +103,12 @@ module _ (x : Station) (d o : Desk) (time : ℕ) (v : Vehicle) (l : List Vehicle
   taken-own is opener =
       let own : Plain d (v .movement ∷ movesOf x l) = rw (moves-own x v l is) at (k .own) in
       let e = own-same d time (v .movement) opener (own .waiting) in
-      let clears = own-clears d time (v .movement) in
+      let stays = own-stays d time (v .movement) in
       record {
         same = e ∙ rw is;
         plain = rw e
             (record {
-              own = record { waiting = rw clears (own .waiting); owes = rw clears (own .owes); near = near-rest (v .movement) (movesOf x l) (own .near) };
+              own = record { waiting = stays .1 ∙ own .waiting; owes = rw (stays .0) (own .owes); near = near-rest (v .movement) (movesOf x l) (own .near) };
               far = rw (moves-past x v l (not-other x v is)) at (k .far);
             });
       }
@@ -261,6 +262,6 @@ answered-as-before l s run accepted =
     let k = list-as (good-emptied false noneRefused) plain-emptied run accepted in
     record { each = each-result run ∙ k .each; end = k .end; waiting = waiting (k .plain) }
   where
-    waiting : PlainIn s → (x : Station) → deskOf s x .clears .waiting ≡ 0
+    waiting : PlainIn s → (x : Station) → deskOf s x .waiting ≡ 0
     waiting k A = k .own .waiting
     waiting k B = k .far .waiting

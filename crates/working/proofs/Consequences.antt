@@ -231,7 +231,7 @@ balanceOf l x = record {
   force = after fresh l .force;
   owes = deskOf (after fresh l) x .clears .owes;
   holds = deskOf (after fresh l) (otherAt x) .clears .holds;
-  waits = deskOf (after fresh l) (otherAt x) .clears .waiting;
+  waits = deskOf (after fresh l) (otherAt x) .waiting;
   trains = trainsOf (done fresh l) (after fresh l) (otherAt x);
   way = onTheWayTo (after fresh l) (otherAt x);
 }
@@ -240,7 +240,7 @@ balance : (l : List Todo) (x : Station) (b : Balance) → balanceOf l x ≡ b �
 balance l x b e force =
     let o : deskOf (after fresh l) x .clears .owes ≡ b .owes = ap (λ (z : Balance). z .owes) e in
     let h : deskOf (after fresh l) (otherAt x) .clears .holds ≡ b .holds = ap (λ (z : Balance). z .holds) e in
-    let k : deskOf (after fresh l) (otherAt x) .clears .waiting ≡ b .waits = ap (λ (z : Balance). z .waits) e in
+    let k : deskOf (after fresh l) (otherAt x) .waiting ≡ b .waits = ap (λ (z : Balance). z .waits) e in
     let t : trainsOf (done fresh l) (after fresh l) (otherAt x) ≡ b .trains = ap (λ (z : Balance). z .trains) e in
     let w : onTheWayTo (after fresh l) (otherAt x) ≡ b .way = ap (λ (z : Balance). z .way) e in
     omega (arith, demand3 (runs fresh l) .owed (ap (λ (z : Balance). z .force) e ∙ force) x)

@@ -101,6 +101,6 @@ demand3 {l} {s} run = record {
     slow i there opener = let t = told i there in rw (t .is) (t .slowly opener)
 
     owed : (x : Station)
-        → deskOf s x .clears .owes ≡ deskOf s (otherAt x) .clears .holds + deskOf s (otherAt x) .clears .waiting + trainsOf l s (otherAt x) + onTheWayTo s (otherAt x)
+        → deskOf s x .clears .owes ≡ deskOf s (otherAt x) .clears .holds + deskOf s (otherAt x) .waiting + trainsOf l s (otherAt x) + onTheWayTo s (otherAt x)
     owed A = omega (arith, k .good .kept .own .sum, trains-told l B (vehiclesOf s) (k .told), granted-vehicles A (vehiclesOf s))
     owed B = omega (arith, k .good .kept .far .sum, trains-told l A (vehiclesOf s) (k .told), granted-vehicles B (vehiclesOf s))

@@ -14,10 +14,9 @@ use Rattle.working.proofs.Every.{Every, every-before, every-map}
 use Rattle.working.proofs.Reasons.{OpenPasses, ReturnPasses, TrainPasses}
 use Rattle.working.proofs.Tests.{clash, no-test, or-left, or-right, some-test, zero-test, zero-unless}
 use Rattle.working.specs.Departures.{isTrain, kindIn}
-use Rattle.working.specs.Effects.{departed, grantedIn, ifAny, otherDesk, received, releasedClears, replied, repliedClears, returnDesk, trainDesk}
-use Rattle.working.specs.Sections.{withOut}
+use Rattle.working.specs.Effects.{departed, grantedDesk, grantedIn, ifAny, otherDesk, received, releasedDesk, replied, returnDesk, trainDesk}
+use Rattle.working.specs.Sections.{withHolds, withOut, withWaiting}
 use Rattle.working.specs.WellMade.{isOpener, oneIf}
-use Rattle.working.specs.declared.Clears.{Clears}
 use Rattle.working.specs.declared.Desk.{Desk}
 use Rattle.working.specs.declared.Movement.the-variants.{Open, Return, Through, Train}
 use Rattle.working.specs.declared.Movement.{Movement}
@@ -98,11 +97,11 @@ pub record Visited (d o : Desk) (mine theirs : List Movement) : Type 0 where
   pub guest : o .guest ≡ 0
   pub holds : d .clears .holds ≡ 0
   pub owes : d .clears .owes ≡ 0
-  pub waiting : d .clears .waiting ≡ 0
+  pub waiting : d .waiting ≡ 0
 
 pub record Holding (d o : Desk) (mine theirs : List Movement) : Type 0 where
   pub far-holds : o .clears .holds ≡ 0
-  pub waiting : d .clears .waiting ≡ 0
+  pub waiting : d .waiting ≡ 0
   pub none-far : theirs ≡ []
   pub trains : Every Trains mine
 
@@ -118,11 +117,11 @@ pub data Clear (mine theirs : List Movement) : Type 0 where
   no-far : theirs ≡ [] → Clear mine theirs
 
 pub record Half (d o : Desk) (mine theirs : List Movement) : Type 0 where
-  pub sum : d .clears .owes ≡ o .clears .holds + o .clears .waiting + trains theirs + granted mine
+  pub sum : d .clears .owes ≡ o .clears .holds + o .waiting + trains theirs + granted mine
   pub outs : d .out ≡ (ltb 0 (o .guest) || awayAt mine theirs)
   pub guests : 0 < d .guest → Visited d o mine theirs
   pub holding : 0 < d .clears .holds → Holding d o mine theirs
-  pub waits : 0 < d .clears .waiting → Waits d mine theirs
+  pub waits : 0 < d .waiting → Waits d mine theirs
   pub row : InRow mine
   pub clear : Clear mine theirs
 
@@ -263,8 +262,8 @@ or-else g o e = by (ltb 0 g) refl
     by false none = omega (arith, ltb-false 0 g none)
 
 -- a half of a desk with no guest that holds nothing and where nothing waits: GUEST, HOLDS and WAIT say nothing of it
-pub quiet : {d o : Desk} {mine theirs : List Movement} → d .guest ≡ 0 → d .clears .holds ≡ 0 → d .clears .waiting ≡ 0
-    → d .clears .owes ≡ o .clears .holds + o .clears .waiting + trains theirs + granted mine → d .out ≡ (ltb 0 (o .guest) || awayAt mine theirs)
+pub quiet : {d o : Desk} {mine theirs : List Movement} → d .guest ≡ 0 → d .clears .holds ≡ 0 → d .waiting ≡ 0
+    → d .clears .owes ≡ o .clears .holds + o .waiting + trains theirs + granted mine → d .out ≡ (ltb 0 (o .guest) || awayAt mine theirs)
     → InRow mine → Clear mine theirs → Half d o mine theirs
 quiet guest holds waiting sum outs row clear = record {
   sum = sum;
@@ -287,7 +286,7 @@ kept-opener d o t out m mine theirs h p op is-out =
     let no-guest = or-left (ltb 0 (o .guest)) (awayAt mine theirs) none-out in
     let none-away = or-right (ltb 0 (o .guest)) (awayAt mine theirs) none-out in
     let k = opener m op in
-    let own-waits : d .clears .waiting ≡ 0 = zero-unless (d .clears .waiting) (λ some. omega (arith, h .own .waits some, p .owes)) in
+    let own-waits : d .waiting ≡ 0 = zero-unless (d .waiting) (λ some. omega (arith, h .own .waits some, p .owes)) in
     let ahead = opener-ahead m mine op (no-opens mine theirs (h .own .row) none-away) (omega (arith, h .own .sum, p .owes)) in
     record {
       own = quiet (p .guest) (p .holds) own-waits (omega (arith, h .own .sum, k .grants))
@@ -356,27 +355,28 @@ kept-train d o t a g mine theirs h p =
     none-away (m ∷ l) all last = hauled m (all .0) .no-open
 
     -- a grant is owed beside nothing else
-    now-owes : (b : Bool) → ltb 0 g ≡ b → d .clears .owes ≡ o .clears .holds + o .clears .waiting + trains theirs + granted mine
-        → cond b g (d .clears .owes) ≡ o .clears .holds + o .clears .waiting + trains theirs + (g + granted mine)
+    now-owes : (b : Bool) → ltb 0 g ≡ b → d .clears .owes ≡ o .clears .holds + o .waiting + trains theirs + granted mine
+        → cond b g (d .clears .owes) ≡ o .clears .holds + o .waiting + trains theirs + (g + granted mine)
     now-owes true some sum = omega (arith, p .free (ltb-true 0 g some))
     now-owes false none sum = omega (arith, ltb-false 0 g none)
 
 -- ---- receipts
 
 -- the station held nothing: what waited after the reply is then held, where it owes nothing more, and else goes on waiting
-pub record Released (c r : Clears) : Type 0 where
-  pub sum : r .holds + r .waiting ≡ c .waiting
-  pub holding : 0 < r .holds → (r .owes ≡ 0) × (r .waiting ≡ 0)
-  pub waits : 0 < r .waiting → (0 < r .owes) × (r .holds ≡ 0)
+pub record Released (d r : Desk) : Type 0 where
+  pub sum : r .clears .holds + r .waiting ≡ d .waiting
+  pub holding : 0 < r .clears .holds → (r .clears .owes ≡ 0) × (r .waiting ≡ 0)
+  pub waits : 0 < r .waiting → (0 < r .clears .owes) × (r .clears .holds ≡ 0)
 
-pub released : (c : Clears) → c .holds ≡ 0 → Released c (releasedClears c)
-released c none = by (eqb (c .owes) 0) refl
+pub released : (d : Desk) → d .clears .holds ≡ 0 → Released d (releasedDesk d)
+released d none = by (eqb (d .clears .owes) 0) refl
   where
-    by : (b : Bool) → eqb (c .owes) 0 ≡ b
-        → Released c (record { asked = c .asked; holds = cond b (ifAny (c .waiting) (c .holds)) (c .holds); owes = c .owes; waiting = cond b 0 (c .waiting) })
-    by true zero = let held = or-else (c .waiting) (c .holds) none in
-        record { sum = omega arith; holding = λ some. (eqb-true (c .owes) 0 zero, refl); waits = λ some. absurd (omega arith) }
-    by false owes = record { sum = omega arith; holding = λ some. absurd (omega arith); waits = λ some. (some-test (c .owes) owes, none) }
+    by : (b : Bool) → eqb (d .clears .owes) 0 ≡ b
+        → Released d (withHolds (cond b (ifAny (d .waiting) (d .clears .holds)) (d .clears .holds)) (withWaiting (cond b 0 (d .waiting)) d))
+    by true zero =
+        let held = or-else (d .waiting) (d .clears .holds) none in
+        record { sum = omega arith; holding = λ some. (eqb-true (d .clears .owes) 0 zero, refl); waits = λ some. absurd (omega arith) }
+    by false owes = record { sum = omega arith; holding = λ some. absurd (omega arith); waits = λ some. (some-test (d .clears .owes) owes, none) }
 
 -- the station's own OPEN or THROUGH
 pub kept-own : (d o : Desk) (t sent : ℕ) (m : Movement) (mine theirs : List Movement) → Halves d o (m ∷ mine) theirs
@@ -388,10 +388,10 @@ kept-own d o t sent m mine theirs h op =
     let their-guest : o .guest ≡ 0 = zero-unless (o .guest) (λ some. cons-nil (h .far .guests some .none-far)) in
     let own-holds : d .clears .holds ≡ 0 = zero-unless (d .clears .holds) (λ some. let one = ap oneIf (h .own .holding some .trains .0) in omega (arith, k .train)) in
     let their-holds : o .clears .holds ≡ 0 = zero-unless (o .clears .holds) (λ some. cons-nil (h .far .holding some .none-far)) in
-    let own-waits : d .clears .waiting ≡ 0 = zero-unless (d .clears .waiting) (λ some. cons-nil (h .own .waits some .none)) in
-    let their-waits : o .clears .waiting ≡ 0 = zero-unless (o .clears .waiting) (λ some. let one = ap oneIf (h .far .waits some .bare .0 .train) in omega (arith, k .train)) in
-    let still = released (repliedClears (d .clears) (grantedIn m)) own-holds in
-    let none-waits : ifAny (grantedIn m) (d .clears .waiting) ≡ 0 = or-else (grantedIn m) (d .clears .waiting) own-waits ∙ k .grants in
+    let own-waits : d .waiting ≡ 0 = zero-unless (d .waiting) (λ some. cons-nil (h .own .waits some .none)) in
+    let their-waits : o .waiting ≡ 0 = zero-unless (o .waiting) (λ some. let one = ap oneIf (h .far .waits some .bare .0 .train) in omega (arith, k .train)) in
+    let still = released (grantedDesk (grantedIn m) (withOut (cond (isOpen m) false (d .out)) (received d t sent))) own-holds in
+    let none-waits : ifAny (grantedIn m) (d .waiting) ≡ 0 = or-else (grantedIn m) (d .waiting) own-waits ∙ k .grants in
     let all-open = theirs-open (h .far .clear) in
     let none-open = every-map (Ahead m) NoOpen (λ n k. k .no-open) mine (h .own .row .0) in
     let none-away = no-open-away mine theirs none-open (openers-last theirs all-open) in
@@ -427,33 +427,33 @@ module _ (d o : Desk) (m : Movement) (l : List Movement) (h : Halves d o [] (l +
   pub far-holds : d .clears .holds ≡ 0
   far-holds = zero-unless (d .clears .holds) (λ some. snoc-nil l m (h .own .holding some .none-far))
 
-  their-waits : o .clears .waiting ≡ 0
-  their-waits = zero-unless (o .clears .waiting) (λ some. snoc-nil l m (h .far .waits some .none))
+  their-waits : o .waiting ≡ 0
+  their-waits = zero-unless (o .waiting) (λ some. snoc-nil l m (h .far .waits some .none))
 
   pub own-sum : d .clears .owes ≡ o .clears .holds + (trains l + trainOne m)
   own-sum = omega (arith, h .own .sum, weigh-snoc trainOne l m, their-waits)
 
-  pub far-sum : o .clears .owes ≡ d .clears .waiting + (granted l + grantedIn m)
+  pub far-sum : o .clears .owes ≡ d .waiting + (granted l + grantedIn m)
   far-sum = omega (arith, h .far .sum, weigh-snoc grantedIn l m, far-holds)
 
   far-row : InRow l × Every (λ n. Ahead n m) l
   far-row = row-snoc l m (h .far .row)
 
   -- where line clears wait, the one that comes is a TRAIN that grants nothing
-  waits-bare : 0 < d .clears .waiting → Every Bare l × Bare m
+  waits-bare : 0 < d .waiting → Every Bare l × Bare m
   waits-bare some = every-before Bare l m (h .own .waits some .bare)
 
   -- what then waits, and that TRAINs that grant nothing are behind it
-  now-waits : ifAny (grantedIn m) (d .clears .waiting) ≡ d .clears .waiting + grantedIn m
+  now-waits : ifAny (grantedIn m) (d .waiting) ≡ d .waiting + grantedIn m
   now-waits = by (ltb 0 (grantedIn m)) refl
     where
-      by : (b : Bool) → ltb 0 (grantedIn m) ≡ b → cond b (grantedIn m) (d .clears .waiting) ≡ d .clears .waiting + grantedIn m
+      by : (b : Bool) → ltb 0 (grantedIn m) ≡ b → cond b (grantedIn m) (d .waiting) ≡ d .waiting + grantedIn m
       by true some =
-          let none : d .clears .waiting ≡ 0 = zero-unless (d .clears .waiting) (λ waits. omega (arith, waits-bare waits .1 .grants, ltb-true 0 (grantedIn m) some)) in
+          let none : d .waiting ≡ 0 = zero-unless (d .waiting) (λ waits. omega (arith, waits-bare waits .1 .grants, ltb-true 0 (grantedIn m) some)) in
           omega arith
       by false none = omega (arith, ltb-false 0 (grantedIn m) none)
 
-  bare-behind : 0 < d .clears .waiting + grantedIn m → Every Bare l
+  bare-behind : 0 < d .waiting + grantedIn m → Every Bare l
   bare-behind some = by (ltb 0 (grantedIn m)) refl
     where
       by : (b : Bool) → ltb 0 (grantedIn m) ≡ b → Every Bare l
@@ -469,8 +469,8 @@ kept-guest d o t class a l h guest =
     let none : trains l ≡ 0 = ap trains nil in
     let sum = own-sum d o m l h in
     let their-holds : o .clears .holds ≡ 0 = zero-unless (o .clears .holds) (λ some. false≢true (every-before Trains l m (h .far .holding some .trains) .1)) in
-    let none-waits : d .clears .waiting ≡ 0 = zero-unless (d .clears .waiting) (λ some. false≢true (waits-bare d o m l h some .1 .train)) in
-    let still = released (repliedClears (otherDesk d t class m .clears) 0) (far-holds d o m l h) in
+    let none-waits : d .waiting ≡ 0 = zero-unless (d .waiting) (λ some. false≢true (waits-bare d o m l h some .1 .train)) in
+    let still = released (grantedDesk 0 (otherDesk d t class m)) (far-holds d o m l h) in
     record {
       own = record {
         sum = omega (arith, their-waits d o m l h);
@@ -487,12 +487,12 @@ kept-guest d o t class a l h guest =
     }
 
 -- the line clears that it leaves, before its reply is read
-pub record Brings (c : Clears) (m : Movement) (e : Clears) : Type 0 where
-  pub holds : e .holds ≡ c .holds
-  pub owes : e .owes ≡ c .owes - trainOne m
-  pub waiting : e .waiting ≡ c .waiting
+pub record Brings (d : Desk) (m : Movement) (e : Desk) : Type 0 where
+  pub holds : e .clears .holds ≡ d .clears .holds
+  pub owes : e .clears .owes ≡ d .clears .owes - trainOne m
+  pub waiting : e .waiting ≡ d .waiting
 
-pub brings : (d : Desk) (t class : ℕ) (m : Movement) → Brings (d .clears) m (otherDesk d t class m .clears)
+pub brings : (d : Desk) (t class : ℕ) (m : Movement) → Brings d m (otherDesk d t class m)
 brings d t class (Open a) = record { holds = refl; owes = omega arith; waiting = refl }
 brings d t class Through = record { holds = refl; owes = omega arith; waiting = refl }
 brings d t class (Return a g) = record { holds = refl; owes = omega arith; waiting = refl }
@@ -519,8 +519,8 @@ kept-far d o t class m l h n =
     let own = own-sum d o m l h in
     let far = far-sum d o m l h in
     let now = now-waits d o m l h in
-    let after = released (repliedClears (e .clears) (grantedIn m)) (b .holds ∙ far-holds d o m l h) in
-    let waited : ifAny (grantedIn m) (e .clears .waiting) ≡ d .clears .waiting + grantedIn m = ap (ifAny (grantedIn m)) (b .waiting) ∙ now in
+    let after = released (grantedDesk (grantedIn m) e) (b .holds ∙ far-holds d o m l h) in
+    let waited : ifAny (grantedIn m) (e .waiting) ≡ d .waiting + grantedIn m = ap (ifAny (grantedIn m)) (b .waiting) ∙ now in
     record {
       own = record {
         sum = omega (arith, their-waits d o m l h);
@@ -542,7 +542,7 @@ kept-far d o t class m l h n =
         guests = λ some. absurd (omega (arith, their-guest d o m l h));
         holding = λ some.
             let q = h .far .holding some in
-            record { far-holds = zero-unless _ (λ (held : 0 < releasedClears (repliedClears (e .clears) (grantedIn m)) .holds). omega (arith, after .holding held)); waiting = q .waiting; none-far = refl; trains = every-before Trains l m (q .trains) .0 };
+            record { far-holds = zero-unless _ (λ (held : 0 < replied (grantedIn m) e .clears .holds). omega (arith, after .holding held)); waiting = q .waiting; none-far = refl; trains = every-before Trains l m (q .trains) .0 };
         waits = λ some. absurd (omega (arith, their-waits d o m l h));
         row = far-row d o m l h .0;
         clear = no-far refl;

@@ -5,8 +5,8 @@
 use Prim.Native.Nat.{_+_, ℕ}
 use Rattle.working.proofs.Computing.{step-computes}
 use Rattle.working.proofs.Edges.{Edge, answersTo, expectedOf, refused, row, rowsLeavingAnother}
-use Rattle.working.proofs.Literals.{begin, counts, figures, meet, opensAs, plain, receive, resume, vehicle, withClock, withOwes, withWaiting, working}
-use Rattle.working.specs.Sections.{fresh, freshDesk, numberAt, otherAt, padTo}
+use Rattle.working.proofs.Literals.{begin, counts, figures, meet, opensAs, plain, receive, resume, vehicle, withClock, withOwes, working}
+use Rattle.working.specs.Sections.{fresh, freshDesk, numberAt, otherAt, padTo, withWaiting}
 use Rattle.working.specs.declared.Answer.the-variants.{Accepted}
 use Rattle.working.specs.declared.Desk.{Desk}
 use Rattle.working.specs.declared.Interval.the-variants.{Since, Stopped}

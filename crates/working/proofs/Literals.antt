@@ -69,7 +69,7 @@ vehicle movement sender form heading met class = record { movement = movement; s
 
 abbrev pub figures : ℕ → ℕ → ℕ → Interval → Bool → ℕ → ℕ → ℕ → ℕ → Desk
 figures clock last sent interval out guest asked holds owes =
-    withFigures clock last sent interval out guest (record { asked = asked; holds = holds; owes = owes; waiting = 0 }) freshDesk
+    withFigures clock last sent interval out guest (record { asked = asked; holds = holds; owes = owes }) freshDesk
 
 abbrev pub withClock : ℕ → Desk → Desk
 withClock n d = withEntered n (d .last) (d .sent) (d .interval) d
@@ -81,13 +81,10 @@ abbrev pub withSent : ℕ → Desk → Desk
 withSent n d = withEntered (d .clock) (d .last) n (d .interval) d
 
 abbrev pub withAsked : ℕ → Desk → Desk
-withAsked n d = withClears (record { asked = n; holds = d .clears .holds; owes = d .clears .owes; waiting = d .clears .waiting }) d
+withAsked n d = withClears (record { asked = n; holds = d .clears .holds; owes = d .clears .owes }) d
 
 abbrev pub withOwes : ℕ → Desk → Desk
-withOwes n d = withClears (record { asked = d .clears .asked; holds = d .clears .holds; owes = n; waiting = d .clears .waiting }) d
-
-abbrev pub withWaiting : ℕ → Desk → Desk
-withWaiting n d = withClears (record { asked = d .clears .asked; holds = d .clears .holds; owes = d .clears .owes; waiting = n }) d
+withOwes n d = withClears (record { asked = d .clears .asked; holds = d .clears .holds; owes = n }) d
 
 -- ---- so many refused for A, for B, and of no station; and a section in force: these refused, these vehicles from A to B, these desks
 

@@ -5,9 +5,9 @@
 -- Assumes nothing.
 use Prim.Native.Nat.{suc, ℕ}
 use Rattle.working.proofs.Computing.{step-computes}
-use Rattle.working.proofs.Literals.{counts, figures, vehicle, withAsked, withClock, withLast, withOwes, withSent, withWaiting, working}
+use Rattle.working.proofs.Literals.{counts, figures, vehicle, withAsked, withClock, withLast, withOwes, withSent, working}
 use Rattle.working.specs.Refusals.{numberOf}
-use Rattle.working.specs.Sections.{freshDesk, noneRefused, numberAt, otherAt, padTo, withGuest, withHolds, withInterval, withOut}
+use Rattle.working.specs.Sections.{freshDesk, noneRefused, numberAt, otherAt, padTo, withGuest, withHolds, withInterval, withOut, withWaiting}
 use Rattle.working.specs.Steps.{stepOf}
 use Rattle.working.specs.declared.Answer.the-variants.{Accepted, Refused}
 use Rattle.working.specs.declared.Answer.{Answer}

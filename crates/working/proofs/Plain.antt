@@ -7,7 +7,7 @@ use Rattle.working.proofs.Reasons.{OpenPasses, ReturnPasses, TrainPasse
 use Rattle.working.proofs.Tests.{zero-unless}
 use Rattle.working.specs.Acts as acts
 use Rattle.working.specs.Acts.{Act}
-use Rattle.working.specs.Effects.{departed, grantedIn, otherDesk, replied, repliedClears, releasedClears, returnDesk, trainDesk}
+use Rattle.working.specs.Effects.{departed, grantedDesk, grantedIn, otherDesk, replied, returnDesk, trainDesk}
 use Rattle.working.specs.Sections.{withOut}
 use Rattle.working.specs.declared.Desk.{Desk}
 use Rattle.working.specs.declared.Movement.the-variants.{Return, Train}
@@ -20,7 +20,7 @@ use native.Mathlib.Omega.{arith}
 
 -- a station's desk d, and what its vehicles left on, nearest it first
 pub record Plain (d : Desk) (mine : List Movement) : Type 0 where
-  pub waiting : d .clears .waiting ≡ 0
+  pub waiting : d .waiting ≡ 0
   pub owes : 0 < d .clears .holds → d .clears .owes ≡ 0
   pub near : granted (drop 1 mine) ≡ 0
 
@@ -83,11 +83,11 @@ module _ (d o : Desk) (t class : ℕ) (m : Movement) (l : List Movement) (h : Ha
   pub plain-far : Plain (replied (grantedIn m) taken) [] × Plain o l
   plain-far =
       let b = brings d t class m in
-      let after = released (repliedClears (taken .clears) (grantedIn m)) (b .holds ∙ far-holds d o m l h) in
-      let waits = or-else (grantedIn m) (taken .clears .waiting) (b .waiting ∙ own .waiting) in (
+      let after = released (grantedDesk (grantedIn m) taken) (b .holds ∙ far-holds d o m l h) in
+      let waits = or-else (grantedIn m) (taken .waiting) (b .waiting ∙ own .waiting) in (
         record {
           waiting = zero-unless _
-              (λ (some : 0 < releasedClears (repliedClears (taken .clears) (grantedIn m)) .waiting). omega (arith, after .sum, after .waits some, paid (omega (arith, after .sum))));
+              (λ (some : 0 < replied (grantedIn m) taken .waiting). omega (arith, after .sum, after .waits some, paid (omega (arith, after .sum))));
           owes = λ some. after .holding some .0;
           near = refl;
         },

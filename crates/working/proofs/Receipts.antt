@@ -6,7 +6,7 @@ use Rattle.working.proofs.Invariant.{Halves, kept-far, kept-guest, kept
 use Rattle.working.proofs.Tests.{both, either-most}
 use Rattle.working.specs.Effects.{arriveDesk, grantedIn, ifAny, otherDesk, ownDesk, replied}
 use Rattle.working.specs.Reasons.{mayEnter}
-use Rattle.working.specs.Sections.{numberAt, withClears, withFigures}
+use Rattle.working.specs.Sections.{numberAt, withFigures, withHolds, withWaiting}
 use Rattle.working.specs.WellMade.{isFrom, isOpener, notLater}
 use Rattle.working.specs.declared.Clears.{Clears}
 use Rattle.working.specs.declared.Desk.{Desk}
@@ -63,17 +63,12 @@ granted-most (Train a g) class made = made .granted
 pub arrives-replied : (d e : Desk) (n : ℕ) (m : Movement) (class : ℕ) → MovementMade m class → Arrives d e n → Arrives d (replied (grantedIn m) e) n
 arrives-replied d e n m class made a =
     let b = a .bounds in
-    let c = e .clears in
-    let holds : c .holds ≤ 8 = omega arith in
-    let waiting : ifAny (grantedIn m) (c .waiting) ≤ 8 = either-most (ltb 0 (grantedIn m)) (granted-most m class made) (omega arith) in
-    let held = either-most (ltb 0 (ifAny (grantedIn m) (c .waiting))) waiting holds in
+    let owes = eqb (e .clears .owes) 0 in
+    let holds : e .clears .holds ≤ 8 = omega arith in
+    let waiting : ifAny (grantedIn m) (e .waiting) ≤ 8 = either-most (ltb 0 (grantedIn m)) (granted-most m class made) (omega arith) in
+    let held = either-most (ltb 0 (ifAny (grantedIn m) (e .waiting))) waiting holds in
     let none : 0 ≤ 8 = omega arith in
-    record {
-      last = a .last;
-      sent = a .sent;
-      bounds = omega (arith, either-most (eqb (c .owes) 0) held holds, either-most (eqb (c .owes) 0) none waiting);
-      interval = a .interval;
-    }
+    record { last = a .last; sent = a .sent; bounds = omega (arith, either-most owes held holds, either-most owes none waiting); interval = a .interval }
 
 -- ---- the invariant
 
@@ -92,14 +87,13 @@ keeps-far d o t class (Return a g) l made h = kept-far d o t class (Return a g) 
 keeps-far d o t class (Train a g) l made h = kept-far d o t class (Train a g) l h refl
 
 -- where a vehicle brings no reply and nothing waits, a receipt has nothing more to do
-pub nothing-replied : (granted : ℕ) (d : Desk) → granted ≡ 0 → d .clears .waiting ≡ 0 → replied granted d ≡ d
+pub nothing-replied : (granted : ℕ) (d : Desk) → granted ≡ 0 → d .waiting ≡ 0 → replied granted d ≡ d
 nothing-replied granted d none empty = by (eqb (d .clears .owes) 0)
   where
-    waits : ifAny granted (d .clears .waiting) ≡ 0
+    waits : ifAny granted (d .waiting) ≡ 0
     waits = rw (none, empty)
 
-    by : (b : Bool)
-        → withClears (record { asked = d .clears .asked; holds = cond b (ifAny (ifAny granted (d .clears .waiting)) (d .clears .holds)) (d .clears .holds); owes = d .clears .owes; waiting = cond b 0 (ifAny granted (d .clears .waiting)) }) d ≡ d
+    by : (b : Bool) → withHolds (cond b (ifAny (ifAny granted (d .waiting)) (d .clears .holds)) (d .clears .holds)) (withWaiting (cond b 0 (ifAny granted (d .waiting))) d) ≡ d
     by true = rw (waits, ← empty)
     by false = rw (waits, ← empty)
 

@@ -90,7 +90,7 @@ accepts01 s (d ∷ l) = isAccepted (stepOf01 s (d .bytes) .answer) && accepts01 
 pub record AsBefore {l : List Done} {s : Section} (run : Run fresh l s) : Type 0 where
   pub each : results run ≡ resultsBy stepOf01 fresh l
   pub end : s ≡ endBy stepOf01 fresh l
-  pub waiting : (x : Station) → deskOf s x .clears .waiting ≡ 0
+  pub waiting : (x : Station) → deskOf s x .waiting ≡ 0
 
 abbrev pub AnsweredAsBefore : Type 0
 AnsweredAsBefore = (l : List Done) (s : Section) (run : Run fresh l s) → accepts01 fresh l ≡ true → AsBefore run

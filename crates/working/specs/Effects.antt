@@ -3,7 +3,7 @@
 use Prim.Native.Nat.{_+_, _-_, ℕ}
 use Rattle.working.specs.Acts as acts
 use Rattle.working.specs.Acts.{Act}
-use Rattle.working.specs.Sections.{numberAt, otherAt, withClears, withEntered, withGuest, withOut}
+use Rattle.working.specs.Sections.{numberAt, otherAt, withClears, withEntered, withGuest, withHolds, withOut, withWaiting}
 use Rattle.working.specs.declared.Clears.{Clears}
 use Rattle.working.specs.declared.Desk.{Desk}
 use Rattle.working.specs.declared.Interval.the-variants.{Since, Stopped}
@@ -92,14 +92,14 @@ throughDesk d time = departed d time
 
 -- "RETURN: guest and asked at S cleared; .. granted above 0 becomes S's owes"
 abbrev pub returnClears : Clears → ℕ → Clears
-returnClears c granted = record { asked = 0; holds = c .holds; owes = ifAny granted (c .owes); waiting = c .waiting }
+returnClears c granted = record { asked = 0; holds = c .holds; owes = ifAny granted (c .owes) }
 
 abbrev pub returnDesk : Desk → ℕ → ℕ → Desk
 returnDesk d time granted = withClears (returnClears (d .clears) granted) (withGuest 0 (departed d time))
 
 -- "TRAIN: holds falls by 1; .. granted above 0 becomes owes and clears S's asked"
 abbrev pub trainClears : Clears → ℕ → Clears
-trainClears c granted = record { asked = cond (ltb 0 granted) 0 (c .asked); holds = c .holds - 1; owes = ifAny granted (c .owes); waiting = c .waiting }
+trainClears c granted = record { asked = cond (ltb 0 granted) 0 (c .asked); holds = c .holds - 1; owes = ifAny granted (c .owes) }
 
 abbrev pub trainDesk : Desk → ℕ → ℕ → Desk
 trainDesk d time granted = withClears (trainClears (d .clears) granted) (departed d time)
@@ -119,11 +119,11 @@ ownDesk d time (Train asked granted) = d
 
 -- an OPEN "makes .. asked"
 abbrev pub openedClears : Clears → ℕ → Clears
-openedClears c asked = record { asked = asked; holds = c .holds; owes = c .owes; waiting = c .waiting }
+openedClears c asked = record { asked = asked; holds = c .holds; owes = c .owes }
 
 -- "RETURN and TRAIN set .. asked if above 0"
 abbrev pub broughtClears : Clears → ℕ → ℕ → Clears
-broughtClears c asked owes = record { asked = ifAny asked (c .asked); holds = c .holds; owes = owes; waiting = c .waiting }
+broughtClears c asked owes = record { asked = ifAny asked (c .asked); holds = c .holds; owes = owes }
 
 -- "One from O: sent becomes 0, and OPEN makes guest and asked; RETURN clears out; TRAIN lowers owes by 1, not below 0"
 abbrev pub otherDesk : Desk → ℕ → ℕ → Movement → Desk
@@ -144,21 +144,18 @@ grantedIn (Return asked granted) = granted
 grantedIn (Train asked granted) = granted
 
 -- T-02: "At a receipt a grant above 0 takes the place of the clears the receiving station keeps waiting"
-abbrev pub repliedClears : Clears → ℕ → Clears
-repliedClears c granted = record { asked = c .asked; holds = c .holds; owes = c .owes; waiting = ifAny granted (c .waiting) }
+abbrev pub grantedDesk : ℕ → Desk → Desk
+grantedDesk granted d = withWaiting (ifAny granted (d .waiting)) d
 
 -- T-02: "where its own owes is 0 after it, holds is set to those waiting, if any, and none is left waiting. Otherwise no receipt alters holds."
-abbrev pub releasedClears : Clears → Clears
-releasedClears c = record {
-  asked = c .asked;
-  holds = cond (eqb (c .owes) 0) (ifAny (c .waiting) (c .holds)) (c .holds);
-  owes = c .owes;
-  waiting = cond (eqb (c .owes) 0) 0 (c .waiting);
-}
+abbrev pub releasedDesk : Desk → Desk
+releasedDesk d =
+    withHolds (cond (eqb (d .clears .owes) 0) (ifAny (d .waiting) (d .clears .holds)) (d .clears .holds))
+    (withWaiting (cond (eqb (d .clears .owes) 0) 0 (d .waiting)) d)
 
 -- any receipt, in this order: its own effect, the reply that the vehicle brings, and what waits
 abbrev pub replied : ℕ → Desk → Desk
-replied granted d = withClears (releasedClears (repliedClears (d .clears) granted)) d
+replied granted d = releasedDesk (grantedDesk granted d)
 
 abbrev pub arriveDesk : Station → Desk → ℕ → Vehicle → Desk
 arriveDesk x d time v = replied (grantedIn (v .movement)) (takenDesk x d time v)

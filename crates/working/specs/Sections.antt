@@ -63,7 +63,7 @@ nearestAt B l = getD l (length l - 1) unused
 -- a desk with these in place of its own figures; one that is not among them stays as it was
 abbrev pub withFigures : ℕ → ℕ → ℕ → Interval → Bool → ℕ → Clears → Desk → Desk
 withFigures clock last sent interval out guest clears d =
-    record { clock = clock; last = last; sent = sent; interval = interval; out = out; guest = guest; clears = clears }
+    record { clock = clock; last = last; sent = sent; interval = interval; out = out; guest = guest; clears = clears; waiting = d .waiting }
 
 -- what every departure and every receipt alters, and what tells the kinds apart
 abbrev pub withEntered : ℕ → ℕ → ℕ → Interval → Desk → Desk
@@ -82,7 +82,11 @@ abbrev pub withClears : Clears → Desk → Desk
 withClears clears d = withFigures (d .clock) (d .last) (d .sent) (d .interval) (d .out) (d .guest) clears d
 
 abbrev pub withHolds : ℕ → Desk → Desk
-withHolds holds d = withClears (record { asked = d .clears .asked; holds = holds; owes = d .clears .owes; waiting = d .clears .waiting }) d
+withHolds holds d = withClears (record { asked = d .clears .asked; holds = holds; owes = d .clears .owes }) d
+
+abbrev pub withWaiting : ℕ → Desk → Desk
+withWaiting waiting d =
+    record { clock = d .clock; last = d .last; sent = d .sent; interval = d .interval; out = d .out; guest = d .guest; clears = d .clears; waiting = waiting }
 
 abbrev pub deskOf : Section → Station → Desk
 deskOf s A = s .a
@@ -128,10 +132,10 @@ countRefusal whose s = record { vehicles = s .vehicles; len = s .len; force = s 
 -- ---- the fresh section
 
 abbrev pub noClears : Clears
-noClears = record { asked = 0; holds = 0; owes = 0; waiting = 0 }
+noClears = record { asked = 0; holds = 0; owes = 0 }
 
 abbrev pub freshDesk : Desk
-freshDesk = record { clock = 0; last = 0; sent = 0; interval = Stopped; out = false; guest = 0; clears = noClears }
+freshDesk = record { clock = 0; last = 0; sent = 0; interval = Stopped; out = false; guest = 0; clears = noClears; waiting = 0 }
 
 abbrev pub noneRefused : Counts
 noneRefused = record { a = 0; b = 0; none = 0 }

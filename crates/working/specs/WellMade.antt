@@ -125,7 +125,7 @@ deskFigures d =
     ∷ (d .clears .asked, upTo 8)  -- "trains the other station has enquired for, unanswered, 0 to 8"
     ∷ (d .clears .holds, upTo 8)  -- "line clears for its own trains, 0 to 8"
     ∷ (d .clears .owes, upTo 8)  -- "line clears given and not yet arrived, 0 to 8"
-    ∷ (d .clears .waiting, upTo 8)  -- T-02: "the clears the receiving station keeps waiting (0 to 8)"
+    ∷ (d .waiting, upTo 8)  -- T-02: "the clears the receiving station keeps waiting (0 to 8)"
     ∷ []
 
 abbrev pub numbersOf : List Figure → List ℕ

@@ -1,4 +1,4 @@
--- `desks::put_clears` meets its contract: four words of the desk, each in range of its type.
+-- `desks::put_clears` meets its contract: three words of the desk, each in range of its type.
 -- Assumes nothing.
 use Prim.Native.Nat.{_%_}
 use Rattle.words.proofs.DeskWords.{desk-becomes, put-next}
@@ -12,20 +12,15 @@ use native.Mathlib.Omega.{arith}
 
 returns : tie.Need-returns
 returns c =
-    let third = c .before .before .before in
-    let second = third .before .before .before in
+    let second = c .before .before .before in
     let first = second .before .before .before in
     let clears = first .before .before .before .args .c in
-    let ranges = first .before .struct-known .given in
     let asked : clears .asked % 256 ≡ clears .asked = mod-eq-of-lt (omega arith) in
     let holds : clears .holds % 256 ≡ clears .holds = mod-eq-of-lt (omega arith) in
     let owes : clears .owes % 256 ≡ clears .owes = mod-eq-of-lt (omega arith) in
-    let waiting : clears .waiting % 256 ≡ clears .waiting = mod-eq-of-lt (omega arith) in
-    let three = put-next (put-next (first .put .ensures) (second .put2 .ensures)) (third .put3 .ensures) in
-    desk-becomes (withClears clears) (put-next three (c .put4 .ensures)) (rw (asked, holds, owes, waiting)) (λ d. refl)
+    desk-becomes (withClears clears) (put-next (put-next (first .put .ensures) (second .put2 .ensures)) (c .put3 .ensures)) (rw (asked, holds, owes)) (λ d. refl)
 
 pub put-clears-spec : {M : Type 1} → statement M
 put-clears-spec =
     tie.close
-    (tie.spec (λ c. search needs) (λ c κs. search needs) (λ c. search needs) (λ c κs. search needs) (λ c. search needs) (λ c κs. search needs) (λ c. search needs)
-    (λ c κs. search needs) returns)
+    (tie.spec (λ c. search needs) (λ c κs. search needs) (λ c. search needs) (λ c κs. search needs) (λ c. search needs) (λ c κs. search needs) returns)

@@ -76,7 +76,7 @@ pub fn granted_in(movement: Movement) -> u8
     }
 }
 
-// The desk after any receipt's reply: what the vehicle grants takes the place of what waits, and what waits is held as soon as the station owes nothing.
+// The desk after any receipt's reply: what the vehicle grants takes the place of what waits, and what waits is held where the station owes nothing.
 pub fn replied_desk(d: Desk, granted: u8) -> Desk
     ensures { λ r. ⌜ r ≡ replied granted d ⌝ }
 {

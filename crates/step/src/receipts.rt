@@ -1,4 +1,4 @@
-// RECEIVE: a vehicle is taken at the station's end, and the figures change by whose it is and what it left on.
+// RECEIVE: a vehicle is taken at the station's end, and the figures change by whose it is and what it left on; then by the reply that it brings, and by what waits.
 ghost use Rattle.step.specs.Entering.{Enters};
 ghost use Rattle.words.specs.Words.{DeskBecomes, sectionIn};
 ghost use Rattle.working.specs.Acts as acts;

@@ -1,7 +1,7 @@
 -- T-02: "Lists from fresh once accepted throughout are answered as before." Of every list of steps from fresh of which document 01's own step refuses none, today's step
 -- gives each the same answer and the same section, and nothing waits at the end: `answered-as-before`.
 -- The two steps differ in refusal 16 on a TRAIN and in what a receipt makes of holds. In such a list a station that holds a line clear owes none, so that a TRAIN which
--- document 01 lets go is let go; and whoever receives a grant owes nothing after it, so that it is held at once (`Plain`).
+-- document 01 lets go is let go; and whoever receives a grant owes nothing after it, so that it is held at once (`ReplyLast`).
 -- Assumes nothing.
 use Prim.Native.Nat.{_<_, ℕ}
 use Rattle.working.proofs.Changes.{Change, arrival, change, departure, emptying, meeting, named-there, refusal, step-is, well-at}
@@ -10,21 +10,20 @@ use Rattle.working.proofs.Invariant.{Halves, far-holds}
 use Rattle.working.proofs.Kept.{Between, Good, good-emptied, good-step, kept-at}
 use Rattle.working.proofs.Lists.{each-result, step-did}
 use Rattle.working.proofs.Made.{Well, other-sender, vehicles-with}
-use Rattle.working.proofs.Plain.{Allowed01, Plain, near-rest, paid, plain-far}
-use Rattle.working.proofs.Plans.{Departs}
+use Rattle.working.proofs.ReplyLast.{Allowed01, ReplyLast, last-far, near-rest, paid}
 use Rattle.working.proofs.Reasons.{depart-passes, receive-passes}
 use Rattle.working.proofs.Receipts.{Receipt, nothing-replied, of-other, of-own, receipt}
 use Rattle.working.proofs.Sides.{moves-far, moves-met, moves-none, moves-own, moves-past, moves-skip, movesOf}
 use Rattle.working.proofs.Tests.{NoneHolds, both, no-test, none-holds, or-left, or-right, some-test, zero-test}
-use Rattle.working.proofs.Vehicles.{From, NotFrom, Nearest, every-end, nearest, not-other, number-same, ordered-far}
+use Rattle.working.proofs.Vehicles.{From, NotFrom, every-end, nearest, not-other, number-same, ordered-far}
 use Rattle.working.specs.Acts as acts
 use Rattle.working.specs.Acts.{Act}
-use Rattle.working.specs.Document01.{AnsweredAsBefore, accepts01, arriveDesk01, entered01, holdsAfter01, onDecoded01, planOf01, stepOf01, testsOf01, trainTests01}
+use Rattle.working.specs.Document01.{AnsweredAsBefore, arriveDesk01, entered01, holdsAfter01, onDecoded01, planOf01, stepOf01, testsOf01, trainTests01}
 use Rattle.working.specs.Effects.{Plan, arriveDesk, effectOf, grantedIn, otherDesk, ownDesk, replied}
 use Rattle.working.specs.Events.{At, Bad, Begin, Decoded, Meet, Resume, Says, decode}
 use Rattle.working.specs.Reasons.{departTests, mayEnter, testsOf, trainTests}
 use Rattle.working.specs.Refusals.{Test, firstOf}
-use Rattle.working.specs.Runs.{Done, Run, endBy, next, resultsBy, resultsOf, stop}
+use Rattle.working.specs.Runs.{Done, Run, acceptsBy, endBy, next, resultsBy, resultsOf, stop}
 use Rattle.working.specs.Sections.{deskOf, freshDesk, insertAt, nearestAt, noneRefused, otherAt, vehiclesOf, withDesk, withHolds, withVehicles}
 use Rattle.working.specs.Steps.{doneBy, entered, metAt, onDecoded, planOf, stepOf, unlessRefused}
 use Rattle.working.specs.Turns.{isAccepted}
@@ -46,21 +45,21 @@ use mathlib.Core.List.{List, [], _++_, _∷_}
 use mathlib.Core.Path.{_∙_, _≡_, ap, ap₂, refl, sym}
 
 -- what stands beside the invariant, seen from station x, whose desk is d, the other's o
-pub record Plains (x : Station) (d o : Desk) (l : List Vehicle) : Type 0 where
-  pub own : Plain d (movesOf x l)
-  pub far : Plain o (movesOf (otherAt x) l)
+pub record RepliesLast (x : Station) (d o : Desk) (l : List Vehicle) : Type 0 where
+  pub own : ReplyLast d (movesOf x l)
+  pub far : ReplyLast o (movesOf (otherAt x) l)
 
-abbrev PlainIn : Section → Type 0
-PlainIn s = Plains A (s .a) (s .b) (vehiclesOf s)
+abbrev RepliesLastIn : Section → Type 0
+RepliesLastIn s = RepliesLast A (s .a) (s .b) (vehiclesOf s)
 
-plain-at : (x : Station) (s : Section) → PlainIn s → Plains x (deskOf s x) (deskOf s (otherAt x)) (vehiclesOf s)
-plain-at A s k = k
-plain-at B s k = record { own = k .far; far = k .own }
+last-at : (x : Station) (s : Section) → RepliesLastIn s → RepliesLast x (deskOf s x) (deskOf s (otherAt x)) (vehiclesOf s)
+last-at A s k = k
+last-at B s k = record { own = k .far; far = k .own }
 
-plain-with : (s : Section) (x : Station) (e : Desk) (l : List Vehicle) → Well x e (deskOf s (otherAt x)) l → Plains x e (deskOf s (otherAt x)) l
-    → PlainIn (withDesk (withVehicles s l) x e)
-plain-with s A e l w k = rw (vehicles-with 24 l (w .fits)) k
-plain-with s B e l w k = rw (vehicles-with 24 l (w .fits)) (record { own = k .far; far = k .own })
+last-with : (s : Section) (x : Station) (e : Desk) (l : List Vehicle) → Well x e (deskOf s (otherAt x)) l → RepliesLast x e (deskOf s (otherAt x)) l
+    → RepliesLastIn (withDesk (withVehicles s l) x e)
+last-with s A e l w k = rw (vehicles-with 24 l (w .fits)) k
+last-with s B e l w k = rw (vehicles-with 24 l (w .fits)) (record { own = k .far; far = k .own })
 
 -- ---- a receipt
 
@@ -94,19 +93,19 @@ own-stays d t (Train a g) = (refl, refl)
 
 -- a vehicle v that may enter is taken at x: the desk e after it
 module _ (x : Station) (d o : Desk) (time : ℕ) (v : Vehicle) (l : List Vehicle)
-    (w : Well x d o (insertAt x v l)) (h : Between x d o (insertAt x v l)) (k : Plains x d o (insertAt x v l)) where
+    (w : Well x d o (insertAt x v l)) (h : Between x d o (insertAt x v l)) (k : RepliesLast x d o (insertAt x v l)) where
   record TakenAs (e : Desk) : Type 0 where
     same : e ≡ arriveDesk01 x d time v
-    plain : Plains x e o l
+    replies : RepliesLast x e o l
 
   taken-own : From x v → isOpener (v .movement) ≡ true → TakenAs (replied (grantedIn (v .movement)) (ownDesk d time (v .movement)))
   taken-own is opener =
-      let own : Plain d (v .movement ∷ movesOf x l) = rw (moves-own x v l is) at (k .own) in
+      let own : ReplyLast d (v .movement ∷ movesOf x l) = rw (moves-own x v l is) at (k .own) in
       let e = own-same d time (v .movement) opener (own .waiting) in
       let stays = own-stays d time (v .movement) in
       record {
         same = e ∙ rw is;
-        plain = rw e
+        replies = rw e
             (record {
               own = record { waiting = stays .1 ∙ own .waiting; owes = rw (stays .0) (own .owes); near = near-rest (v .movement) (movesOf x l) (own .near) };
               far = rw (moves-past x v l (not-other x v is)) at (k .far);
@@ -119,14 +118,14 @@ module _ (x : Station) (d o : Desk) (time : ℕ) (v : Vehicle) (l : List Vehicle
       let none-own = moves-none x l (ordered-far x v l is (w .order) .1) in
       let theirs = moves-far x v l (other-sender x v shape is) in
       let halves : Halves d o [] (movesOf (otherAt x) l ++ v .movement ∷ []) = rw (moves-skip x v l is, none-own, theirs) at h in
-      let own : Plain d [] = rw (moves-skip x v l is, none-own) at (k .own) in
-      let far : Plain o (movesOf (otherAt x) l ++ v .movement ∷ []) = rw theirs at (k .far) in
-      let after = plain-far d o time (v .class) (v .movement) (movesOf (otherAt x) l) halves own far in
+      let own : ReplyLast d [] = rw (moves-skip x v l is, none-own) at (k .own) in
+      let far : ReplyLast o (movesOf (otherAt x) l ++ v .movement ∷ []) = rw theirs at (k .far) in
+      let after = last-far d o time (v .class) (v .movement) (movesOf (otherAt x) l) halves own far in
       record {
         same = other-same d time (v .class) (v .movement) (far-holds d o (v .movement) (movesOf (otherAt x) l) halves) (own .waiting)
             (paid d o time (v .class) (v .movement) (movesOf (otherAt x) l) halves own far)
             ∙ rw is;
-        plain = record { own = rw none-own (after .0); far = after .1 };
+        replies = record { own = rw none-own (after .0); far = after .1 };
       }
 
   taken-as : mayEnter x v ≡ true → TakenAs (arriveDesk x d time v)
@@ -148,7 +147,7 @@ record ActAs (act : Act) (x : Station) (force : Bool) (d : Desk) (time : ℕ) (v
   plan : planOf act x force d time v ≡ planOf01 act x force d time v
   allowed : Allowed01 act d
 
-act-as : (act : Act) (x : Station) (force : Bool) (d o : Desk) (time : ℕ) (l : List Vehicle) → Well x d o l → Between x d o l → Plains x d o l
+act-as : (act : Act) (x : Station) (force : Bool) (d o : Desk) (time : ℕ) (l : List Vehicle) → Well x d o l → Between x d o l → RepliesLast x d o l
     → firstOf (testsOf01 act x force d time (nearestAt x l)) ≡ Allowed → ActAs act x force d time (nearestAt x l)
 act-as (acts.Open view class asked) x force d o time l w h k passes = record { plan = refl; allowed = tt }
 act-as (acts.Through view) x force d o time l w h k passes = record { plan = refl; allowed = tt }
@@ -187,39 +186,39 @@ entered-as : (s : Section) (x : Station) (time : ℕ) (act : Act)
 unfolding entered
 entered-as s x time act plan = ap (doneBy s (Says (At x time act)) x) plan
 
-decoded-as : (s : Section) (e : Decoded) → Good s → PlainIn s → isAccepted (onDecoded01 s e .answer) ≡ true → (onDecoded s e ≡ onDecoded01 s e) × Allows s e
+decoded-as : (s : Section) (e : Decoded) → Good s → RepliesLastIn s → isAccepted (onDecoded01 s e .answer) ≡ true → (onDecoded s e ≡ onDecoded01 s e) × Allows s e
 decoded-as s (Bad why) g k accepted = absurd (false≢true accepted)
 decoded-as s (Says Begin) g k accepted = (refl, tt)
 decoded-as s (Says (At x time act)) g k accepted =
     let passes = passes01 s (Says (At x time act)) x _ _ accepted in
-    let a = act-as act x (s .force) (deskOf s x) (deskOf s (otherAt x)) time (vehiclesOf s) (well-at s x (g .sound)) (kept-at x s g) (plain-at x s k) passes in
+    let a = act-as act x (s .force) (deskOf s x) (deskOf s (otherAt x)) time (vehiclesOf s) (well-at s x (g .sound)) (kept-at x s g) (last-at x s k) passes in
     (entered-as s x time act (a .plan), a .allowed)
 decoded-as s (Says (Meet x sender form)) g k accepted = (refl, tt)
 decoded-as s (Says Resume) g k accepted = (refl, tt)
 
-plain-emptied : Plains A freshDesk freshDesk []
-plain-emptied = record { own = none; far = none }
+last-emptied : RepliesLast A freshDesk freshDesk []
+last-emptied = record { own = none; far = none }
   where
-    none : Plain freshDesk []
+    none : ReplyLast freshDesk []
     none = record { waiting = refl; owes = λ some. refl; near = refl }
 
-plain-change : (s : Section) (e : Decoded) (r : Stepped) → Good s → PlainIn s → Allows s e → Change s e r → PlainIn (r .section)
-plain-change s e r g k allows (refusal step why) = k
-plain-change s e r g k allows (emptying step force) = plain-emptied
-plain-change s e r g k allows (departure x time act {p} f leaves w) =
+last-change : (s : Section) (e : Decoded) (r : Stepped) → Good s → RepliesLastIn s → Allows s e → Change s e r → RepliesLastIn (r .section)
+last-change s e r g k allows (refusal step why) = k
+last-change s e r g k allows (emptying step force) = last-emptied
+last-change s e r g k allows (departure x time act {p} f leaves w) =
     let from : From x (p .vehicle) = rw (leaves .sender) (number-same x) in
     let l = vehiclesOf s in
-    let here = plain-at x s k in
-    plain-with s x (p .desk) (insertAt x (p .vehicle) l) w
+    let here = last-at x s k in
+    last-with s x (p .desk) (insertAt x (p .vehicle) l) w
     (record {
-      own = rw (moves-own x (p .vehicle) l from) (leaves .plain (deskOf s (otherAt x)) (movesOf x l) (movesOf (otherAt x) l) (kept-at x s g) allows (here .own));
+      own = rw (moves-own x (p .vehicle) l from) (leaves .replies (deskOf s (otherAt x)) (movesOf x l) (movesOf (otherAt x) l) (kept-at x s g) allows (here .own));
       far = rw (moves-past x (p .vehicle) l (not-other x (p .vehicle) from)) (here .far);
     })
-plain-change s e r g k allows (arrival x time y n near f may w) =
+last-change s e r g k allows (arrival x time y n near f may w) =
     let before = rw (near .whole) at (well-at s x (g .sound)) in
-    plain-with s x (arriveDesk x (deskOf s x) time (near .vehicle)) (near .others) w
-    (taken-as x (deskOf s x) (deskOf s (otherAt x)) time (near .vehicle) (near .others) before (rw (near .whole) at (kept-at x s g)) (rw (near .whole) at (plain-at x s k)) may .plain)
-plain-change s e r g k allows (meeting x y n i f w) =
+    last-with s x (arriveDesk x (deskOf s x) time (near .vehicle)) (near .others) w
+    (taken-as x (deskOf s x) (deskOf s (otherAt x)) time (near .vehicle) (near .others) before (rw (near .whole) at (kept-at x s g)) (rw (near .whole) at (last-at x s k)) may .replies)
+last-change s e r g k allows (meeting x y n i f w) =
     let present = vehicles-with 24 (metAt x i (vehiclesOf s)) (w .fits) in
     record { own = rw (present, moves-met A x i (vehiclesOf s)) (k .own); far = rw (present, moves-met B x i (vehiclesOf s)) (k .far) }
 
@@ -227,41 +226,41 @@ step-01-is : (s : Section) (bytes : List ℕ) → wellMade s ≡ true → stepOf
 unfolding stepOf01
 step-01-is s bytes made = rw made
 
-step-as : (s : Section) (bytes : List ℕ) → Good s → PlainIn s → isAccepted (stepOf01 s bytes .answer) ≡ true
-    → (stepOf s bytes ≡ stepOf01 s bytes) × PlainIn (stepOf s bytes .section)
+step-as : (s : Section) (bytes : List ℕ) → Good s → RepliesLastIn s → isAccepted (stepOf01 s bytes .answer) ≡ true
+    → (stepOf s bytes ≡ stepOf01 s bytes) × RepliesLastIn (stepOf s bytes .section)
 step-as s bytes g k accepted =
     let made = g .sound .well in
     let (same, allows) = decoded-as s (decode bytes) g k (rw (step-01-is s bytes made) at accepted) in
-    (step-is s bytes made ∙ same ∙ sym (step-01-is s bytes made), plain-change s (decode bytes) (stepOf s bytes) g k allows (change s bytes (g .sound)))
+    (step-is s bytes made ∙ same ∙ sym (step-01-is s bytes made), last-change s (decode bytes) (stepOf s bytes) g k allows (change s bytes (g .sound)))
 
 -- ---- the list
 
 record ListAs (s : Section) (l : List Done) (t : Section) : Type 0 where
   each : resultsOf s l ≡ resultsBy stepOf01 s l
   end : t ≡ endBy stepOf01 s l
-  plain : PlainIn t
+  replies : RepliesLastIn t
 
-list-as : {s t : Section} {l : List Done} → Good s → PlainIn s → Run s l t → accepts01 s l ≡ true → ListAs s l t
-list-as g k stop accepted = record { each = refl; end = refl; plain = k }
+list-as : {s t : Section} {l : List Done} → Good s → RepliesLastIn s → Run s l t → acceptsBy stepOf01 s l ≡ true → ListAs s l t
+list-as g k stop accepted = record { each = refl; end = refl; replies = k }
 list-as {s} g k (next {t = t} {d = d} {l = l} h r) accepted =
-    let (first, others) = both (isAccepted (stepOf01 s (d .bytes) .answer)) (accepts01 (stepOf01 s (d .bytes) .section) l) accepted in
-    let (same, plain) = step-as s (d .bytes) g k first in
+    let (first, others) = both (isAccepted (stepOf01 s (d .bytes) .answer)) (acceptsBy stepOf01 (stepOf01 s (d .bytes) .section) l) accepted in
+    let (same, replies) = step-as s (d .bytes) g k first in
     let left = step-did d s t h .left in
     let after : t ≡ stepOf01 s (d .bytes) .section = left ∙ ap (λ (z : Stepped). z .section) same in
-    let rest = list-as (rw left (good-step s (d .bytes) g)) (rw left plain) r (rw after others) in
+    let rest = list-as (rw left (good-step s (d .bytes) g)) (rw left replies) r (rw after others) in
     record {
       each = ap₂ _∷_ same (ap (λ (z : Section). resultsOf z l) (sym left) ∙ rest .each ∙ ap (λ (z : Section). resultsBy stepOf01 z l) after);
       end = rest .end ∙ ap (λ (z : Section). endBy stepOf01 z l) after;
-      plain = rest .plain;
+      replies = rest .replies;
     }
 
 -- ---- the theorem
 
 pub answered-as-before : AnsweredAsBefore
 answered-as-before l s run accepted =
-    let k = list-as (good-emptied false noneRefused) plain-emptied run accepted in
-    record { each = each-result run ∙ k .each; end = k .end; waiting = waiting (k .plain) }
+    let k = list-as (good-emptied false noneRefused) last-emptied run accepted in
+    record { each = each-result run ∙ k .each; end = k .end; waiting = waiting (k .replies) }
   where
-    waiting : PlainIn s → (x : Station) → deskOf s x .waiting ≡ 0
+    waiting : RepliesLastIn s → (x : Station) → deskOf s x .waiting ≡ 0
     waiting k A = k .own .waiting
     waiting k B = k .far .waiting

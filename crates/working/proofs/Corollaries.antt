@@ -1,5 +1,6 @@
 -- Of every list of steps from a fresh section: no step is refused with 5, since every section on the way is well made and no other test gives 5;
--- and where a TRAIN of the other station is the nearest, the station owes a line clear, so that "not below 0" never acts.
+-- where a TRAIN of the other station is the nearest, the station owes a line clear, so that "not below 0" never acts;
+-- and a station that holds line clears and owes some is asked for none, so that a TRAIN's grant while it owes is above what is asked: that half of 16 never decides alone.
 -- Assumes nothing.
 use Prim.Native.Nat.{_+_, _<_, ℕ}
 use Rattle.working.proofs.Changes.{step-is}
@@ -139,3 +140,9 @@ train-owed {s = s} run x there from train =
     let one : trainOne (v .movement) ≡ 1 = rw (rw (k .near) at train) in
     let theirs = ap (movesOf far) (k .whole) ∙ moves-far x v (k .others) (rw (k .near) at from) in
     omega (arith, kept-at x s (kept run .good) .own .sum, ap trains theirs, weigh-snoc trainOne (movesOf far (k .others)) (v .movement))
+
+-- ---- a TRAIN's grant while its station owes
+
+pub owing-above-asked : {l : List Done} {s : Section} → Run fresh l s → (x : Station) (granted : ℕ) → 0 < deskOf s x .clears .holds → 0 < deskOf s x .clears .owes
+    → 0 < granted → deskOf s x .clears .asked < granted
+owing-above-asked {s = s} run x granted holds owes some = omega (arith, kept-at x s (kept run .good) .own .holding holds .asked owes)

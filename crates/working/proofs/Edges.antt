@@ -7,6 +7,7 @@
 use Prim.Native.Nat.{_+_, suc, ℕ}
 use Rattle.working.proofs.Computing.{step-computes}
 use Rattle.working.proofs.Literals.{begin, counts, figures, meet, opens, plain, receive, resume, returns, sameSection, through, train, vehicle, working}
+use Rattle.working.specs.Document01.{stepOf01}
 use Rattle.working.specs.Entries.{every}
 use Rattle.working.specs.Sections.{fresh, freshDesk, noneRefused}
 use Rattle.working.specs.Steps.{stepOf}
@@ -22,6 +23,7 @@ use Rattle.working.specs.declared.Refusal.{Refusal}
 use Rattle.working.specs.declared.Section.{Section}
 use Rattle.working.specs.declared.Speed.the-variants.{Booked, Kmh, Walking}
 use Rattle.working.specs.declared.Station.the-variants.{A, B}
+use Rattle.working.specs.declared.Stepped.{Stepped}
 use Rattle.working.specs.declared.Vehicle.{Vehicle}
 use Rattle.working.specs.declared.Whose.the-variants.{NoStation, Of}
 use Rattle.working.specs.declared.Whose.{Whose}
@@ -40,19 +42,25 @@ abbrev pub after : Section → List (List ℕ) → Section
 after s [] = s
 after s (bytes ∷ l) = after (stepOf s bytes .section) l
 
+abbrev pub answersBy : (Section → List ℕ → Stepped) → List Edge → List Answer
+answersBy step [] = []
+answersBy step (r ∷ rows) = step (r .before) (r .bytes) .answer ∷ answersBy step rows
+
 abbrev pub answersTo : List Edge → List Answer
-answersTo [] = []
-answersTo (r ∷ rows) = stepOf (r .before) (r .bytes) .answer ∷ answersTo rows
+answersTo rows = answersBy stepOf rows
 
 abbrev pub expectedOf : List Edge → List Answer
 expectedOf [] = []
 expectedOf (r ∷ rows) = r .expected ∷ expectedOf rows
 
 -- the rows, counted from n, that leave another section than the table has
+abbrev pub leavingAnotherBy : (Section → List ℕ → Stepped) → ℕ → List Edge → List ℕ
+leavingAnotherBy step n [] = []
+leavingAnotherBy step n (r ∷ rows) =
+    cond (sameSection (step (r .before) (r .bytes) .section) (r .leaves)) (leavingAnotherBy step (suc n) rows) (n ∷ leavingAnotherBy step (suc n) rows)
+
 abbrev pub rowsLeavingAnother : ℕ → List Edge → List ℕ
-rowsLeavingAnother n [] = []
-rowsLeavingAnother n (r ∷ rows) =
-    cond (sameSection (stepOf (r .before) (r .bytes) .section) (r .leaves)) (rowsLeavingAnother (suc n) rows) (n ∷ rowsLeavingAnother (suc n) rows)
+rowsLeavingAnother n rows = leavingAnotherBy stepOf n rows
 
 -- ---- the sections that the rows start from
 
@@ -163,6 +171,11 @@ edges-hold = refl
 pub edges-leave : rowsLeavingAnother 1 edges ≡ []
 unfolding edges eleven guest holding met step-computes worn
 edges-leave = refl
+
+-- and document 01's own step, which stays as a definition, holds to its own edges
+pub edges-hold-01 : (answersBy stepOf01 edges ≡ expectedOf edges) × (leavingAnotherBy stepOf01 1 edges ≡ [])
+unfolding edges eleven guest holding met step-computes stepOf01 worn
+edges-hold-01 = (refl, refl)
 
 -- the sections that the rows find, in figures
 pub edges-find :

@@ -3,7 +3,8 @@
 --     SUM     owes = the other's holds + what waits at the other + the other's trains + what the own vehicles grant      `sum`
 --     OUT     out says whether the opener is away: a guest at the other end, the own OPEN, or the other's RETURN nearest here      `outs`
 --     GUEST   a desk with a guest: nothing in the section, no guest opposite, holds and owes nothing, and nothing waits      `guests`
---     HOLDS   a desk that holds a line clear: the other holds none, nothing waits here, and every vehicle is a TRAIN of its own      `holding`
+--     HOLDS   a desk that holds a line clear: the other holds none, nothing waits here, every vehicle is a TRAIN of its own, and nothing is asked here where it owes
+--             `holding`
 --     WAIT    a desk where line clears wait: it owes, holds none, and every vehicle is a TRAIN of the other that grants nothing      `waits`
 --     NEAR    an OPEN is nearest its sender; nearer it than a vehicle with a grant there are only TRAINs that grant nothing      `row`, by `Ahead`
 --     RETURN  a RETURN is nearest the other station      `row`, by `Ahead`; `clear`
@@ -15,7 +16,7 @@ use Rattle.working.proofs.Reasons.{OpenPasses, ReturnPasses, TrainPasse
 use Rattle.working.proofs.Tests.{clash, no-test, or-left, or-right, some-test, zero-test, zero-unless}
 use Rattle.working.specs.Departures.{isTrain, kindIn}
 use Rattle.working.specs.Effects.{departed, grantedDesk, grantedIn, ifAny, otherDesk, received, releasedDesk, replied, returnDesk, trainDesk}
-use Rattle.working.specs.Sections.{withHolds, withOut, withWaiting}
+use Rattle.working.specs.Sections.{withOut}
 use Rattle.working.specs.WellMade.{isOpener, oneIf}
 use Rattle.working.specs.declared.Desk.{Desk}
 use Rattle.working.specs.declared.Movement.the-variants.{Open, Return, Through, Train}
@@ -104,6 +105,7 @@ pub record Holding (d o : Desk) (mine theirs : List Movement) : Type 0 where
   pub waiting : d .waiting ≡ 0
   pub none-far : theirs ≡ []
   pub trains : Every Trains mine
+  pub asked : 0 < d .clears .owes → d .clears .asked ≡ 0
 
 pub record Waits (d : Desk) (mine theirs : List Movement) : Type 0 where
   pub owes : 0 < d .clears .owes
@@ -332,7 +334,7 @@ kept-train d o t a g mine theirs h p =
         sum = now-owes (ltb 0 g) refl (h .own .sum);
         outs = h .own .outs ∙ ap (ltb 0 (o .guest) ||_) (none-away mine (q .trains) (ap lastReturn (q .none-far)));
         guests = λ some. absurd (omega arith);
-        holding = λ some. record { far-holds = q .far-holds; waiting = q .waiting; none-far = q .none-far; trains = (refl, q .trains) };
+        holding = λ some. record { far-holds = q .far-holds; waiting = q .waiting; none-far = q .none-far; trains = (refl, q .trains); asked = answered (ltb 0 g) (q .asked) };
         waits = λ some. absurd (omega (arith, q .waiting));
         row = (trains-ahead a g mine (q .trains) (λ some. bare (omega (arith, h .own .sum))), h .own .row);
         clear = no-far (q .none-far);
@@ -354,7 +356,12 @@ kept-train d o t a g mine theirs h p =
     none-away [] all last = last
     none-away (m ∷ l) all last = hauled m (all .0) .no-open
 
-    -- a grant is owed beside nothing else
+    -- a grant answers the enquiry
+    answered : (b : Bool) → (0 < d .clears .owes → d .clears .asked ≡ 0) → 0 < cond b g (d .clears .owes) → cond b 0 (d .clears .asked) ≡ 0
+    answered true asked owes = refl
+    answered false asked owes = asked owes
+
+    -- and is owed beside nothing else
     now-owes : (b : Bool) → ltb 0 g ≡ b → d .clears .owes ≡ o .clears .holds + o .waiting + trains theirs + granted mine
         → cond b g (d .clears .owes) ≡ o .clears .holds + o .waiting + trains theirs + (g + granted mine)
     now-owes true some sum = omega (arith, p .free (ltb-true 0 g some))
@@ -371,12 +378,11 @@ pub record Released (d r : Desk) : Type 0 where
 pub released : (d : Desk) → d .clears .holds ≡ 0 → Released d (releasedDesk d)
 released d none = by (eqb (d .clears .owes) 0) refl
   where
-    by : (b : Bool) → eqb (d .clears .owes) 0 ≡ b
-        → Released d (withHolds (cond b (ifAny (d .waiting) (d .clears .holds)) (d .clears .holds)) (withWaiting (cond b 0 (d .waiting)) d))
+    by : (b : Bool) → eqb (d .clears .owes) 0 ≡ b → Released d (releasedDesk d)
     by true zero =
         let held = or-else (d .waiting) (d .clears .holds) none in
-        record { sum = omega arith; holding = λ some. (eqb-true (d .clears .owes) 0 zero, refl); waits = λ some. absurd (omega arith) }
-    by false owes = record { sum = omega arith; holding = λ some. absurd (omega arith); waits = λ some. (some-test (d .clears .owes) owes, none) }
+        rw zero (record { sum = omega arith; holding = λ some. (eqb-true (d .clears .owes) 0 zero, refl); waits = λ some. absurd (omega arith) })
+    by false owes = rw owes (record { sum = omega arith; holding = λ some. absurd (omega arith); waits = λ some. (some-test (d .clears .owes) owes, none) })
 
 -- the station's own OPEN or THROUGH
 pub kept-own : (d o : Desk) (t sent : ℕ) (m : Movement) (mine theirs : List Movement) → Halves d o (m ∷ mine) theirs
@@ -443,7 +449,7 @@ module _ (d o : Desk) (m : Movement) (l : List Movement) (h : Halves d o [] (l +
   waits-bare : 0 < d .waiting → Every Bare l × Bare m
   waits-bare some = every-before Bare l m (h .own .waits some .bare)
 
-  -- what then waits, and that TRAINs that grant nothing are behind it
+  -- with its grant, if any, so many wait
   now-waits : ifAny (grantedIn m) (d .waiting) ≡ d .waiting + grantedIn m
   now-waits = by (ltb 0 (grantedIn m)) refl
     where
@@ -453,6 +459,7 @@ module _ (d o : Desk) (m : Movement) (l : List Movement) (h : Halves d o [] (l +
           omega arith
       by false none = omega (arith, ltb-false 0 (grantedIn m) none)
 
+  -- and where any do, only TRAINs that grant nothing are behind it
   bare-behind : 0 < d .waiting + grantedIn m → Every Bare l
   bare-behind some = by (ltb 0 (grantedIn m)) refl
     where
@@ -486,7 +493,7 @@ kept-guest d o t class a l h guest =
           (far-row d o m l h .0) (no-far refl);
     }
 
--- the line clears that it leaves, before its reply is read
+-- the line clears that the other's vehicle leaves, before its reply is read
 pub record Brings (d : Desk) (m : Movement) (e : Desk) : Type 0 where
   pub holds : e .clears .holds ≡ d .clears .holds
   pub owes : e .clears .owes ≡ d .clears .owes - trainOne m
@@ -529,7 +536,7 @@ kept-far d o t class m l h n =
         holding = λ some.
             let paid = after .holding some in
             let nil = trains-none l (bare-behind d o m l h (omega (arith, after .sum))) (omega arith) in
-            record { far-holds = omega arith; waiting = paid .1; none-far = nil; trains = tt };
+            record { far-holds = omega arith; waiting = paid .1; none-far = nil; trains = tt; asked = λ owes. absurd (omega (arith, paid .0)) };
         waits = λ some.
             let owing = after .waits some in
             record { owes = owing .0; holds = owing .1; none = refl; bare = bare-behind d o m l h (omega (arith, after .sum)) };
@@ -542,7 +549,8 @@ kept-far d o t class m l h n =
         guests = λ some. absurd (omega (arith, their-guest d o m l h));
         holding = λ some.
             let q = h .far .holding some in
-            record { far-holds = zero-unless _ (λ (held : 0 < replied (grantedIn m) e .clears .holds). omega (arith, after .holding held)); waiting = q .waiting; none-far = refl; trains = every-before Trains l m (q .trains) .0 };
+            let none : replied (grantedIn m) e .clears .holds ≡ 0 = zero-unless _ (λ held. omega (arith, after .holding held)) in
+            record { far-holds = none; waiting = q .waiting; none-far = refl; trains = every-before Trains l m (q .trains) .0; asked = q .asked };
         waits = λ some. absurd (omega (arith, their-waits d o m l h));
         row = far-row d o m l h .0;
         clear = no-far refl;

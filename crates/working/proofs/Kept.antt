@@ -25,7 +25,7 @@ use Rattle.working.specs.declared.Stepped.{Stepped}
 use Rattle.working.specs.declared.Vehicle.{Vehicle}
 use mathlib.Core.Bool.{Bool, true}
 use mathlib.Core.List.{List, []}
-use mathlib.Core.Path.{_∙_, _≡_, refl}
+use mathlib.Core.Path.{_≡_, refl}
 
 -- the invariant seen from station x, whose desk is d, the other's o
 abbrev pub Between : Station → Desk → Desk → List Vehicle → Type 0

@@ -1,11 +1,13 @@
 -- What each kind is refused for, in rising order, and what it does to every figure of the section, the sentences of document 01 and of T-02 row by row for either station.
 -- The sections are written out: the desk that decides has a figure at each place that the kind must keep, and the other desk is full of figures that no entry of this
--- station may alter. A row has the section found, the bytes, the answer, and the section left, compared in every figure.
+-- station may alter. A row has the section found, the bytes, the answer, and the section left, compared in every figure. Every section found is well made, or the answer
+-- would be 5.
 -- Assumes nothing.
 use Prim.Native.Nat.{_+_, ℕ}
 use Rattle.working.proofs.Computing.{step-computes}
-use Rattle.working.proofs.Edges.{Edge, answersTo, expectedOf, refused, row, rowsLeavingAnother}
+use Rattle.working.proofs.Edges.{Edge, answersBy, answersTo, expectedOf, leavingAnotherBy, refused, row, rowsLeavingAnother}
 use Rattle.working.proofs.Literals.{begin, counts, figures, meet, opensAs, plain, receive, resume, vehicle, withClock, withOwes, working}
+use Rattle.working.specs.Document01.{stepOf01}
 use Rattle.working.specs.Sections.{fresh, freshDesk, numberAt, otherAt, padTo, withWaiting}
 use Rattle.working.specs.declared.Answer.the-variants.{Accepted}
 use Rattle.working.specs.declared.Desk.{Desk}
@@ -103,6 +105,7 @@ trainRefused x =
     ∷ refused (Of x) (seenFrom x [] (figures 100 9999 12 (Since 71) true 1 2 0 8)) (runningWith x 1 3) NoLineClear
     ∷ refused (Of x) (seenFrom x [] (figures 100 9999 12 (Since 71) true 1 2 1 0)) (runningWith x 1 3) GrantNotAllowed
     ∷ refused (Of x) (seenFrom x [] (figures 100 9999 12 (Since 71) true 1 3 1 1)) (runningWith x 1 3) GrantNotAllowed
+    ∷ refused (Of x) (seenFrom x [] (figures 100 9999 12 (Since 71) true 1 3 2 1)) (runningWith x 1 3) GrantNotAllowed
     ∷ refused (Of x) (seenFrom x [] (figures 100 9999 12 (Since 71) true 1 3 2 0)) (runningWith x 1 3) TwelveSent
     ∷ refused (Of x) (seenFrom x [] (figures 100 9999 11 (Since 71) true 1 3 2 0)) (runningWith x 1 3) FormsUsed
     ∷ refused (Of x) (seenFrom x [] (figures 100 9998 11 (Since 71) true 1 3 2 0)) (runningWith x 1 3) IntervalRunning
@@ -193,7 +196,7 @@ receipts x =
     ∷ comes x mine (coming x Through 1) (withWaiting 4 (figures 100 7 0 Stopped true 3 6 2 7))
     -- RETURN clears out; asked is set if above 0; without a grant holds stays, and what waits; a grant takes the place of what waits and is not added
     ∷ comes x mine (coming x (Return 0 0) 1) (withWaiting 4 (figures 100 7 0 Stopped false 3 6 2 7))
-    ∷ comes x mine (coming x (Return 1 5) 2) (withWaiting 5 (figures 100 7 0 Stopped false 3 1 2 7))
+    ∷ comes x mine (coming x (Return 1 3) 2) (withWaiting 3 (figures 100 7 0 Stopped false 3 1 2 7))
     -- TRAIN lowers owes by 1, not below 0; the rest as RETURN
     ∷ comes x mine (coming x (Train 0 0) 0) (withWaiting 4 (figures 100 7 0 Stopped true 3 6 2 6))
     ∷ comes x mine (coming x (Train 1 5) 0) (withWaiting 5 (figures 100 7 0 Stopped true 3 1 2 6))
@@ -208,7 +211,7 @@ releases x =
     ∷ comes x owingNone (coming x (Open 8) 4) (figures 100 7 0 Stopped true 4 8 4 0)
     ∷ comes x owingNone (coming x Through 1) (figures 100 7 0 Stopped true 3 6 4 0)
     ∷ comes x owingNone (coming x (Return 0 0) 1) (figures 100 7 0 Stopped false 3 6 4 0)
-    ∷ comes x owingNone (coming x (Return 1 5) 2) (figures 100 7 0 Stopped false 3 1 5 0)
+    ∷ comes x owingNone (coming x (Return 1 1) 2) (figures 100 7 0 Stopped false 3 1 1 0)
     -- a TRAIN lowers owes first
     ∷ comes x owingOne (coming x (Train 0 0) 0) (figures 100 7 0 Stopped true 3 6 4 0)
     ∷ comes x owingOne (coming x (Train 1 5) 0) (figures 100 7 0 Stopped true 3 1 5 0)
@@ -275,3 +278,24 @@ kinds-hold = refl
 pub kinds-leave : rowsLeavingAnother 1 kinds ≡ []
 unfolding step-computes
 kinds-leave = refl
+
+-- ---- document 01's own step, where T-02 altered it: "RETURN and TRAIN set holds to granted", 0 too and whatever is owed; 16 "granted above asked at S, or on a TRAIN
+-- that leaves holds above 0", and not because the station owes
+
+abbrev before02 : Station → List Edge
+before02 x =
+    comes x (withWaiting 0 mine) (coming x (Return 0 0) 1) (figures 100 7 0 Stopped false 3 6 0 7)
+    ∷ comes x (withWaiting 0 mine) (coming x (Return 1 5) 2) (figures 100 7 0 Stopped false 3 1 5 7)
+    ∷ comes x (withWaiting 0 mine) (coming x (Train 0 0) 0) (figures 100 7 0 Stopped true 3 6 0 6)
+    ∷ comes x (withWaiting 0 mine) (coming x (Train 1 5) 0) (figures 100 7 0 Stopped true 3 1 5 6)
+    ∷ comes x (withWaiting 0 mine) (coming x (Open 8) 4) (figures 100 7 0 Stopped true 4 8 2 7)
+    ∷ comes x (withWaiting 0 mine) (coming x Through 1) (figures 100 7 0 Stopped true 3 6 2 7)
+    ∷ back x (withWaiting 0 mine) (own x Through 7 1) (figures 100 7 2 Stopped true 3 6 2 7)
+    ∷ refused (Of x) (seenFrom x [] (figures 100 9999 12 (Since 71) true 1 2 1 8)) (runningWith x 1 3) GrantNotAllowed
+    ∷ refused (Of x) (seenFrom x [] (figures 100 9999 12 (Since 71) true 1 3 2 0)) (runningWith x 1 3) GrantNotAllowed
+    ∷ refused (Of x) (seenFrom x [] (figures 100 9999 12 (Since 71) true 1 3 1 8)) (runningWith x 1 3) TwelveSent
+    ∷ []
+
+pub before-t02 : (answersBy stepOf01 (before02 A ++ before02 B) ≡ expectedOf (before02 A ++ before02 B)) × (leavingAnotherBy stepOf01 1 (before02 A ++ before02 B) ≡ [])
+unfolding step-computes stepOf01
+before-t02 = (refl, refl)

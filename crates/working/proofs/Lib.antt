@@ -1,4 +1,3 @@
-pub mod Ahead
 pub mod AsBefore
 pub mod Bytes
 pub mod Changes
@@ -28,7 +27,6 @@ pub mod Meeting
 pub mod Moved
 pub mod Opposed
 pub mod OwnBytes
-pub mod Plain
 pub mod Plans
 pub mod Ranges
 pub mod ReadAgain
@@ -36,7 +34,9 @@ pub mod ReadThenWritten
 pub mod ReadingEnds
 pub mod Reasons
 pub mod Receipts
+pub mod ReplyLast
 pub mod Scans
+pub mod SentAhead
 pub mod Sentences
 pub mod Session
 pub mod ShortLogs

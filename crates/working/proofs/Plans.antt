@@ -5,7 +5,7 @@
 use Prim.Native.Nat.{_%_, _+_, _<_, _≤_, ℕ}
 use Rattle.working.proofs.Clauses.{Bounds, MovementMade, Shape}
 use Rattle.working.proofs.Invariant.{Halves, isOpen, kept-opener, kept-return, kept-train}
-use Rattle.working.proofs.Plain.{Allowed01, Plain, plain-opener, plain-return, plain-train}
+use Rattle.working.proofs.ReplyLast.{Allowed01, ReplyLast, last-opener, last-return, last-train}
 use Rattle.working.proofs.Ranges.{ActMade}
 use Rattle.working.proofs.Reasons.{OpenPasses, depart-passes, open-passes, receive-passes, return-passes, train-passes}
 use Rattle.working.proofs.Scans.{scanned}
@@ -50,7 +50,7 @@ pub record Departs (act : Act) (x : Station) (d : Desk) (p : Departing) : Type 0
   pub form : p .vehicle .form ≡ d .last + 1
   pub shape : Shape (p .vehicle)
   pub keeps : (o : Desk) (mine theirs : List Movement) → Halves d o mine theirs → Halves (p .desk) o (p .vehicle .movement ∷ mine) theirs
-  pub plain : (o : Desk) (mine theirs : List Movement) → Halves d o mine theirs → Allowed01 act d → Plain d mine → Plain (p .desk) (p .vehicle .movement ∷ mine)
+  pub replies : (o : Desk) (mine theirs : List Movement) → Halves d o mine theirs → Allowed01 act d → ReplyLast d mine → ReplyLast (p .desk) (p .vehicle .movement ∷ mine)
   pub kind : kindOf act ≡ some (kindIn (p .vehicle .movement))
   pub slowly : isOpener (p .vehicle .movement) ≡ true → (eqb (p .order .forms % 2) 1 && isSlow (p .order .speed)) ≡ true
 
@@ -76,7 +76,7 @@ record Leaves (act : Act) (d e : Desk) (m : Movement) (class : ℕ) (order : Ord
   bounds : Bounds e
   made : MovementMade m class
   keeps : (o : Desk) (mine theirs : List Movement) → Halves d o mine theirs → Halves e o (m ∷ mine) theirs
-  plain : (o : Desk) (mine theirs : List Movement) → Halves d o mine theirs → Allowed01 act d → Plain d mine → Plain e (m ∷ mine)
+  replies : (o : Desk) (mine theirs : List Movement) → Halves d o mine theirs → Allowed01 act d → ReplyLast d mine → ReplyLast e (m ∷ mine)
   kind : kindOf act ≡ some (kindIn m)
   slowly : isOpener m ≡ true → (eqb (order .forms % 2) 1 && isSlow (order .speed)) ≡ true
 
@@ -103,7 +103,7 @@ departs-by act x force d t v own out guest clears m class order shows =
       form = refl;
       shape = shape-for x (nextForm d) m class (k .made);
       keeps = k .keeps;
-      plain = k .plain;
+      replies = k .replies;
       kind = k .kind;
       slowly = k .slowly;
     }))
@@ -133,7 +133,7 @@ opener-fate act x force d t v out m class forms w b is out-is made kind odd =
       bounds = omega arith;
       made = made;
       keeps = λ o mine theirs h. kept-opener d o t out m mine theirs h p is (out-is p);
-      plain = λ o mine theirs h allowed. plain-opener d o t out m mine theirs h p;
+      replies = λ o mine theirs h allowed. last-opener d o t out m mine theirs h p;
       kind = kind;
       slowly = λ q. and (eqb (forms % 2) 1) (isSlow (openSpeed w)) odd (open-slow w);
     })
@@ -152,7 +152,7 @@ fate (acts.Return asked granted) x force d t v few b =
       bounds = omega (arith, either-most (ltb 0 granted) (few .granted) owes);
       made = omega (arith, p .guest);
       keeps = λ o mine theirs h. kept-return d o t asked granted mine theirs h p;
-      plain = λ o mine theirs h allowed. plain-return d o t asked granted mine theirs h p;
+      replies = λ o mine theirs h allowed. last-return d o t asked granted mine theirs h p;
       kind = refl;
       slowly = λ q. absurd (false≢true q);
     })
@@ -166,7 +166,7 @@ fate (acts.Train w asked granted) x force d t v few b =
       bounds = omega (arith, either-most (ltb 0 granted) none enquired, either-most (ltb 0 granted) (few .granted) owes);
       made = omega arith;
       keeps = λ o mine theirs h. kept-train d o t asked granted mine theirs h (train-passes d granted n);
-      plain = λ o mine theirs h. plain-train d o t asked granted mine theirs h (train-passes d granted n);
+      replies = λ o mine theirs h. last-train d o t asked granted mine theirs h (train-passes d granted n);
       kind = refl;
       slowly = λ q. absurd (false≢true q);
     })

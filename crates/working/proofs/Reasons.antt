@@ -1,6 +1,6 @@
 -- What is known where no reason applies: each list of tests of specs/Reasons as a record that names what later proofs use of it.
 -- Assumes nothing.
-use Prim.Native.Nat.{_<_, _≤_, suc, ℕ}
+use Prim.Native.Nat.{_<_, suc, ℕ}
 use Rattle.working.proofs.Tests.{NoneHolds, each-holds, no-test, none-of-both, or-right, some-test}
 use Rattle.working.specs.Reasons.{departTests, isNamed, lastTests, mayEnter, mayMeet, meetTests, meetingTests, openTests, receiveTests, returnTests, stationTests, trainTests}
 use Rattle.working.specs.Refusals.{Test}

@@ -6,7 +6,7 @@ use Rattle.working.proofs.Invariant.{Halves, kept-far, kept-guest, kept
 use Rattle.working.proofs.Tests.{both, either-most}
 use Rattle.working.specs.Effects.{arriveDesk, grantedIn, ifAny, otherDesk, ownDesk, replied}
 use Rattle.working.specs.Reasons.{mayEnter}
-use Rattle.working.specs.Sections.{numberAt, withFigures, withHolds, withWaiting}
+use Rattle.working.specs.Sections.{numberAt, withFigures}
 use Rattle.working.specs.WellMade.{isFrom, isOpener, notLater}
 use Rattle.working.specs.declared.Clears.{Clears}
 use Rattle.working.specs.declared.Desk.{Desk}
@@ -70,6 +70,17 @@ arrives-replied d e n m class made a =
     let none : 0 ≤ 8 = omega arith in
     record { last = a .last; sent = a .sent; bounds = omega (arith, either-most owes held holds, either-most owes none waiting); interval = a .interval }
 
+-- where it brings none and nothing waits, a receipt has nothing more to do
+pub nothing-replied : (granted : ℕ) (d : Desk) → granted ≡ 0 → d .waiting ≡ 0 → replied granted d ≡ d
+nothing-replied granted d none empty = by (eqb (d .clears .owes) 0) refl
+  where
+    waits : ifAny granted (d .waiting) ≡ 0
+    waits = rw (none, empty)
+
+    by : (b : Bool) → eqb (d .clears .owes) 0 ≡ b → replied granted d ≡ d
+    by true is = rw (is, waits, ← empty)
+    by false is = rw (is, waits, ← empty)
+
 -- ---- the invariant
 
 pub keeps-own : (d o : Desk) (t : ℕ) (m : Movement) (mine theirs : List Movement) → isOpener m ≡ true → Halves d o (m ∷ mine) theirs
@@ -85,17 +96,6 @@ keeps-far d o t class (Open a) l made h = kept-guest d o t class a l h (made .le
 keeps-far d o t class Through l made h = kept-far d o t class Through l h refl
 keeps-far d o t class (Return a g) l made h = kept-far d o t class (Return a g) l h refl
 keeps-far d o t class (Train a g) l made h = kept-far d o t class (Train a g) l h refl
-
--- where a vehicle brings no reply and nothing waits, a receipt has nothing more to do
-pub nothing-replied : (granted : ℕ) (d : Desk) → granted ≡ 0 → d .waiting ≡ 0 → replied granted d ≡ d
-nothing-replied granted d none empty = by (eqb (d .clears .owes) 0)
-  where
-    waits : ifAny granted (d .waiting) ≡ 0
-    waits = rw (none, empty)
-
-    by : (b : Bool) → withHolds (cond b (ifAny (ifAny granted (d .waiting)) (d .clears .holds)) (d .clears .holds)) (withWaiting (cond b 0 (ifAny granted (d .waiting))) d) ≡ d
-    by true = rw (waits, ← empty)
-    by false = rw (waits, ← empty)
 
 -- ---- whose it is
 

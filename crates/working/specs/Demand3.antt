@@ -73,7 +73,8 @@ pub record Demand3 {l : List Done} {s : Section} (run : Run fresh l s) : Type 0 
   -- any two vehicles heading towards one another both left on T/B 602 at 15 km/h or less
   pub opposed : (i j : ℕ) → i < j → j < s .len → vehicleAt s i .heading ≡ numberAt B → vehicleAt s j .heading ≡ numberAt A
       → (leftSlowly (departureOf l (vehicleAt s i)) ≡ true) × (leftSlowly (departureOf l (vehicleAt s j)) ≡ true)
-  -- line clears owed by each station = those the other holds + those waiting at the other + the other's trains in the section + line clears on the way to the other
+  -- line clears owed by each station = those the other holds + those waiting at the other + the other's trains in the section + line clears on the way to the other;
+  -- T-02: "the sum of clears owed counts those waiting as well"
   pub owed : s .force ≡ true → (x : Station)
       → deskOf s x .clears .owes ≡ deskOf s (otherAt x) .clears .holds + deskOf s (otherAt x) .waiting + trainsOf l s (otherAt x) + onTheWayTo s (otherAt x)
   -- two neighbours change places: every entry has the same answer, and the section is the same in every figure

@@ -1,6 +1,7 @@
 -- Document 01's own step, as it stood before the requests that alter what a step answers, with the counts of T-01. Today's step is in Steps; this one stays for the
 -- sentence of T-02, "Lists from fresh once accepted throughout are answered as before", which is stated at the end. Only what T-02 altered is written out: refusal 16
--- on a TRAIN, and what a receipt makes of holds. It neither reads nor alters what waits, which document 01's section does not have: from fresh that is nothing.
+-- on a TRAIN, and what a receipt makes of holds. What a later request alters is first written out here as it was. The sections are today's. The step makes nothing wait
+-- and moves nothing that waits, so that from fresh nothing waits; and where nothing waits `wellMade` asks what document 01 asks.
 use Prim.Native.Nat.{ℕ}
 use Rattle.working.specs.Acts as acts
 use Rattle.working.specs.Acts.{Act}
@@ -8,10 +9,9 @@ use Rattle.working.specs.Effects.{Arrive, Plan, effectOf, otherDesk, own
 use Rattle.working.specs.Events.{At, Bad, Begin, Decoded, Event, Meet, Resume, Says, decode}
 use Rattle.working.specs.Reasons.{departTests, testsOf}
 use Rattle.working.specs.Refusals.{Test, firstOf}
-use Rattle.working.specs.Runs.{Done, Run, endBy, results, resultsBy}
+use Rattle.working.specs.Runs.{Done, Run, acceptsBy, endBy, results, resultsBy}
 use Rattle.working.specs.Sections.{deskOf, fresh, nearestAt, numberAt, vehiclesOf, withHolds}
 use Rattle.working.specs.Steps.{doneBy, entered, ifMade, refused, unlessRefused}
-use Rattle.working.specs.Turns.{isAccepted}
 use Rattle.working.specs.WellMade.{wellMade}
 use Rattle.working.specs.declared.Desk.{Desk}
 use Rattle.working.specs.declared.Movement.the-variants.{Open, Return, Through, Train}
@@ -81,11 +81,6 @@ stepOf01 s bytes = ifMade (wellMade s) s (onDecoded01 s (decode bytes))
 
 -- ---- "Lists from fresh once accepted throughout are answered as before"
 
--- document 01's step refuses none of a list from s
-abbrev pub accepts01 : Section → List Done → Bool
-accepts01 s [] = true
-accepts01 s (d ∷ l) = isAccepted (stepOf01 s (d .bytes) .answer) && accepts01 (stepOf01 s (d .bytes) .section) l
-
 -- today's step gave each step of a list the answer and the section of document 01's, the section at the end is the same, and nothing waits
 pub record AsBefore {l : List Done} {s : Section} (run : Run fresh l s) : Type 0 where
   pub each : results run ≡ resultsBy stepOf01 fresh l
@@ -93,4 +88,4 @@ pub record AsBefore {l : List Done} {s : Section} (run : Run fresh l s) : Type 0
   pub waiting : (x : Station) → deskOf s x .waiting ≡ 0
 
 abbrev pub AnsweredAsBefore : Type 0
-AnsweredAsBefore = (l : List Done) (s : Section) (run : Run fresh l s) → accepts01 fresh l ≡ true → AsBefore run
+AnsweredAsBefore = (l : List Done) (s : Section) (run : Run fresh l s) → acceptsBy stepOf01 fresh l ≡ true → AsBefore run

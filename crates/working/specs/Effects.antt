@@ -132,7 +132,7 @@ otherDesk d time class Through = received d time 0
 otherDesk d time class (Return asked granted) = withClears (broughtClears (d .clears) asked (d .clears .owes)) (withOut false (received d time 0))
 otherDesk d time class (Train asked granted) = withClears (broughtClears (d .clears) asked (d .clears .owes - 1)) (received d time 0)
 
--- the receipt's own effect, by whose vehicle it is: "every desk figure it alters is S's"
+-- a receipt's own effect, by whose vehicle it is
 abbrev pub takenDesk : Station → Desk → ℕ → Vehicle → Desk
 takenDesk x d time v = cond (eqb (v .sender) (numberAt x)) (ownDesk d time (v .movement)) (otherDesk d time (v .class) (v .movement))
 
@@ -153,10 +153,11 @@ releasedDesk d =
     withHolds (cond (eqb (d .clears .owes) 0) (ifAny (d .waiting) (d .clears .holds)) (d .clears .holds))
     (withWaiting (cond (eqb (d .clears .owes) 0) 0 (d .waiting)) d)
 
--- any receipt, in this order: its own effect, the reply that the vehicle brings, and what waits
+-- the reply that a vehicle brings, and what waits
 abbrev pub replied : ℕ → Desk → Desk
 replied granted d = releasedDesk (grantedDesk granted d)
 
+-- any receipt, in this order: its own effect, of which a TRAIN lowers owes; the reply that the vehicle brings; and what waits
 abbrev pub arriveDesk : Station → Desk → ℕ → Vehicle → Desk
 arriveDesk x d time v = replied (grantedIn (v .movement)) (takenDesk x d time v)
 

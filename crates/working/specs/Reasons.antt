@@ -58,7 +58,7 @@ returnTests d granted =
     ∷ (ltb (d .clears .asked) granted, GrantNotAllowed)  -- 16
     ∷ []
 
--- 16: "granted above asked at S", and T-02: "On a TRAIN, a grant while the station owes is 16."
+-- 16: "granted above asked at S"; T-02: "A TRAIN that leaves holds above 0 may now carry granted. .. On a TRAIN, a grant while the station owes is 16."
 abbrev pub trainTests : Desk → ℕ → List Test
 trainTests d granted =
     (eqb (d .clears .holds) 0, NoLineClear)  -- 15

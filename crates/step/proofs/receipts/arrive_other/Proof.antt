@@ -36,7 +36,7 @@ returns-2 c =
     let start = start-of put in
     desk-is (start .args .at) (rw (c .enum-told .given .1, ← start .pre)) (put .put-receipt .ensures)
 
--- RETURN: the opener is back, with line clears
+-- RETURN: the opener is back, with an enquiry where it asks
 returns-3 : tie.Need-returns-3
 returns-3 c =
     let clears = c .before in

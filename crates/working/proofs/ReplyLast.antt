@@ -2,7 +2,7 @@
 -- grants any but the one nearest its sender. So whoever receives a grant owes nothing after it, and holds it at once, as in document 01.
 -- Assumes nothing.
 use Prim.Native.Nat.{_<_, _≤_, ℕ}
-use Rattle.working.proofs.Invariant.{Brings, Halves, brings, far-holds, far-sum, granted, or-else, own-sum, released, trainOne, trains, weigh-snoc}
+use Rattle.working.proofs.Invariant.{Halves, brings, far-holds, far-sum, granted, or-else, own-sum, released, trains, weigh-snoc}
 use Rattle.working.proofs.Reasons.{OpenPasses, ReturnPasses, TrainPasses}
 use Rattle.working.proofs.Tests.{zero-unless}
 use Rattle.working.specs.Acts as acts
@@ -19,7 +19,7 @@ use mathlib.Core.Path.{_∙_, _≡_, ap, refl}
 use native.Mathlib.Omega.{arith}
 
 -- a station's desk d, and what its vehicles left on, nearest it first
-pub record Plain (d : Desk) (mine : List Movement) : Type 0 where
+pub record ReplyLast (d : Desk) (mine : List Movement) : Type 0 where
   pub waiting : d .waiting ≡ 0
   pub owes : 0 < d .clears .holds → d .clears .owes ≡ 0
   pub near : granted (drop 1 mine) ≡ 0
@@ -34,18 +34,18 @@ Allowed01 (acts.Receive sender form) d = Unit {0}
 
 -- ---- departures
 
-pub plain-opener : (d o : Desk) (t : ℕ) (out : Bool) (m : Movement) (mine theirs : List Movement) → Halves d o mine theirs → OpenPasses d → Plain d mine
-    → Plain (withOut out (departed d t)) (m ∷ mine)
-plain-opener d o t out m mine theirs h p k = record { waiting = k .waiting; owes = k .owes; near = omega (arith, h .own .sum, p .owes) }
+pub last-opener : (d o : Desk) (t : ℕ) (out : Bool) (m : Movement) (mine theirs : List Movement) → Halves d o mine theirs → OpenPasses d → ReplyLast d mine
+    → ReplyLast (withOut out (departed d t)) (m ∷ mine)
+last-opener d o t out m mine theirs h p k = record { waiting = k .waiting; owes = k .owes; near = omega (arith, h .own .sum, p .owes) }
 
-pub plain-return : (d o : Desk) (t a g : ℕ) (mine theirs : List Movement) → Halves d o mine theirs → ReturnPasses d → Plain d mine
-    → Plain (returnDesk d t g) (Return a g ∷ mine)
-plain-return d o t a g mine theirs h p k =
+pub last-return : (d o : Desk) (t a g : ℕ) (mine theirs : List Movement) → Halves d o mine theirs → ReturnPasses d → ReplyLast d mine
+    → ReplyLast (returnDesk d t g) (Return a g ∷ mine)
+last-return d o t a g mine theirs h p k =
     record { waiting = k .waiting; owes = λ some. absurd (omega (arith, p .holds)); near = ap granted (h .own .guests (p .guest) .none) }
 
-pub plain-train : (d o : Desk) (t a g : ℕ) (mine theirs : List Movement) → Halves d o mine theirs → TrainPasses d g → (0 < g → d .clears .holds ≤ 1) → Plain d mine
-    → Plain (trainDesk d t g) (Train a g ∷ mine)
-plain-train d o t a g mine theirs h p last k =
+pub last-train : (d o : Desk) (t a g : ℕ) (mine theirs : List Movement) → Halves d o mine theirs → TrainPasses d g → (0 < g → d .clears .holds ≤ 1) → ReplyLast d mine
+    → ReplyLast (trainDesk d t g) (Train a g ∷ mine)
+last-train d o t a g mine theirs h p last k =
     let free = k .owes (p .holds) in
     record {
       waiting = k .waiting;
@@ -69,7 +69,7 @@ alone [] m h some = refl
 alone (n ∷ l) m h some = absurd (omega (arith, weigh-snoc grantedIn l m))
 
 -- the other's vehicle
-module _ (d o : Desk) (t class : ℕ) (m : Movement) (l : List Movement) (h : Halves d o [] (l ++ m ∷ [])) (own : Plain d []) (far : Plain o (l ++ m ∷ [])) where
+module _ (d o : Desk) (t class : ℕ) (m : Movement) (l : List Movement) (h : Halves d o [] (l ++ m ∷ [])) (own : ReplyLast d []) (far : ReplyLast o (l ++ m ∷ [])) where
   abbrev taken : Desk
   taken = otherDesk d t class m
 
@@ -80,16 +80,12 @@ module _ (d o : Desk) (t class : ℕ) (m : Movement) (l : List Movement) (h : Ha
       let their-holds : o .clears .holds ≡ 0 = zero-unless (o .clears .holds) (λ held. omega (arith, far .owes held, far-sum d o m l h)) in
       omega (arith, own-sum d o m l h, brings d t class m .owes)
 
-  pub plain-far : Plain (replied (grantedIn m) taken) [] × Plain o l
-  plain-far =
+  pub last-far : ReplyLast (replied (grantedIn m) taken) [] × ReplyLast o l
+  last-far =
       let b = brings d t class m in
       let after = released (grantedDesk (grantedIn m) taken) (b .holds ∙ far-holds d o m l h) in
-      let waits = or-else (grantedIn m) (taken .waiting) (b .waiting ∙ own .waiting) in (
-        record {
-          waiting = zero-unless _
-              (λ (some : 0 < replied (grantedIn m) taken .waiting). omega (arith, after .sum, after .waits some, paid (omega (arith, after .sum))));
-          owes = λ some. after .holding some .0;
-          near = refl;
-        },
+      let waits = or-else (grantedIn m) (taken .waiting) (b .waiting ∙ own .waiting) in
+      let none : replied (grantedIn m) taken .waiting ≡ 0 = zero-unless _ (λ some. omega (arith, after .sum, after .waits some, paid (omega (arith, after .sum)))) in (
+        record { waiting = none; owes = λ some. after .holding some .0; near = refl },
         record { waiting = far .waiting; owes = far .owes; near = near-before l m (far .near) },
       )

@@ -1,14 +1,16 @@
 -- A reply sent ahead of the last train, T-02 on lists from fresh, for either station: it waits while the receiving station owes, and is held when the last train is in.
 -- Document 01 refused it with 16; and of a list that document 01 accepts throughout every answer is as before.
 -- Assumes nothing.
-use Prim.Native.Nat.{ℕ}
+use Prim.Native.Nat.{_+_, ℕ}
 use Rattle.working.proofs.AsBefore.{answered-as-before}
 use Rattle.working.proofs.Computing.{step-computes}
 use Rattle.working.proofs.Consequences.{Owed, following, holding, list, owed}
 use Rattle.working.proofs.Lists.{after, done, runs}
 use Rattle.working.proofs.Literals.{receive, train, trainGranting}
-use Rattle.working.specs.Document01.{AsBefore, accepts01, stepOf01}
-use Rattle.working.specs.Sections.{fresh, numberAt, otherAt}
+use Rattle.working.specs.Document01.{stepOf01}
+use Rattle.working.specs.Effects.{wayForm}
+use Rattle.working.specs.Runs.{acceptsBy, endBy, results, resultsBy}
+use Rattle.working.specs.Sections.{deskOf, fresh, numberAt, otherAt}
 use Rattle.working.specs.Steps.{stepOf}
 use Rattle.working.specs.declared.Answer.the-variants.{Accepted, Refused}
 use Rattle.working.specs.declared.Refusal.the-variants.{GrantNotAllowed}
@@ -27,8 +29,8 @@ ahead x = holding x ++ trainGranting (numberAt x) 91 3 ∷ train (numberAt x) 12
 abbrev waiting : Station → List (List ℕ)
 waiting x = ahead x ++ receive (numberAt (otherAt x)) 150 (numberAt x) 2 ∷ []
 
-abbrev released : Station → List (List ℕ)
-released x = waiting x ++ receive (numberAt (otherAt x)) 160 (numberAt x) 3 ∷ []
+abbrev allIn : Station → List (List ℕ)
+allIn x = waiting x ++ receive (numberAt (otherAt x)) 160 (numberAt x) 3 ∷ []
 
 -- ---- it waits, and is held
 
@@ -38,11 +40,11 @@ sent-ahead : (x : Station)
     × Owed (ahead x) (otherAt x) 2 0 0 2 0
     × Owed (waiting x) x 3 0 3 0 0
     × Owed (waiting x) (otherAt x) 1 0 0 1 0
-    × Owed (released x) x 3 3 0 0 0
-    × Owed (released x) (otherAt x) 0 0 0 0 0
+    × Owed (allIn x) x 3 3 0 0 0
+    × Owed (allIn x) (otherAt x) 0 0 0 0 0
 unfolding step-computes
-sent-ahead A = (owed (ahead A) A refl, owed (ahead A) B refl, owed (waiting A) A refl, owed (waiting A) B refl, owed (released A) A refl, owed (released A) B refl)
-sent-ahead B = (owed (ahead B) B refl, owed (ahead B) A refl, owed (waiting B) B refl, owed (waiting B) A refl, owed (released B) B refl, owed (released B) A refl)
+sent-ahead A = (owed (ahead A) A refl, owed (ahead A) B refl, owed (waiting A) A refl, owed (waiting A) B refl, owed (allIn A) A refl, owed (allIn A) B refl)
+sent-ahead B = (owed (ahead B) B refl, owed (ahead B) A refl, owed (waiting B) B refl, owed (waiting B) A refl, owed (allIn B) B refl, owed (allIn B) A refl)
 
 -- ---- document 01 refused it
 
@@ -51,22 +53,39 @@ replying x = trainGranting (numberAt x) 91 3
 
 refused-before : (x : Station)
     → (stepOf01 (after fresh (list (holding x))) (replying x) .answer ≡ Refused GrantNotAllowed)
-    × (accepts01 fresh (done fresh (list (ahead x))) ≡ false)
+    × (acceptsBy stepOf01 fresh (done fresh (list (ahead x))) ≡ false)
 unfolding step-computes stepOf01
 refused-before A = (refl, refl)
 refused-before B = (refl, refl)
 
-accepted-now : (stepOf (after fresh (list (holding A))) (replying A) .answer ≡ Accepted 2 172 Booked)
-    × (stepOf (after fresh (list (holding B))) (replying B) .answer ≡ Accepted 2 180 Booked)
+accepted-throughout : (x : Station) → acceptsBy stepOf fresh (done fresh (list (allIn x))) ≡ true
 unfolding step-computes
-accepted-now = (refl, refl)
+accepted-throughout A = refl
+accepted-throughout B = refl
+
+accepted-now : (x : Station) → stepOf (after fresh (list (holding x))) (replying x) .answer ≡ Accepted 2 (wayForm x + 164) Booked
+unfolding step-computes
+accepted-now A = refl
+accepted-now B = refl
 
 -- ---- and a list that it accepts throughout, with a reply on the last train, is answered as before
 
-accepted-before : (x : Station) → accepts01 fresh (done fresh (list (following x))) ≡ true
+-- the reply on the last of the two trains, and both are in
+abbrev with-the-last : Station → List (List ℕ)
+with-the-last x = following x ++ receive (numberAt (otherAt x)) 150 (numberAt x) 2 ∷ receive (numberAt (otherAt x)) 160 (numberAt x) 3 ∷ []
+
+accepted-before : (x : Station) → acceptsBy stepOf01 fresh (done fresh (list (with-the-last x))) ≡ true
 unfolding step-computes stepOf01
 accepted-before A = refl
 accepted-before B = refl
 
-following-as-before : (x : Station) → AsBefore (runs fresh (list (following x)))
-following-as-before x = answered-as-before (done fresh (list (following x))) (after fresh (list (following x))) (runs fresh (list (following x))) (accepted-before x)
+-- every answer and every section, the section at the end, and that nothing waits, by the theorem
+answered-before : (x : Station)
+    → let l = list (with-the-last x) in
+    (results (runs fresh l) ≡ resultsBy stepOf01 fresh (done fresh l))
+    × (after fresh l ≡ endBy stepOf01 fresh (done fresh l))
+    × ((y : Station) → deskOf (after fresh l) y .waiting ≡ 0)
+answered-before x =
+    let l = list (with-the-last x) in
+    let k = answered-as-before (done fresh l) (after fresh l) (runs fresh l) (accepted-before x) in
+    (k .each, k .end, k .waiting)

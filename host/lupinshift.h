@@ -69,8 +69,9 @@ size_t lupin_fill(uint64_t *state, size_t state_len, const uint8_t *log, size_t 
 size_t lupin_end(const uint8_t *log, size_t log_len, uint8_t *out, size_t out_len);
 
 /* Puts the ten figures of the log's last line at the front of figures and answers LUPIN_FIGURES: entries, accepted, refused for A,
-   refused for B, refused of no station, vehicles present, A holds, A owes, B holds, B owes (enum lupin_figure). Refused where figures
-   has fewer places, and where the log is longer than LUPIN_LONGEST_LOG: its last line, `long`, has no figures. */
+   refused for B, refused of no station, vehicles present, A holds, A owes, B holds, B owes (enum lupin_figure). Line clears that wait
+   are in none of them. Refused where figures has fewer places, and where the log is longer than LUPIN_LONGEST_LOG: its last line,
+   `long`, has no figures. */
 size_t lupin_figures(const uint8_t *log, size_t log_len, uint64_t *figures, size_t figures_len);
 
 /* The number of the refusal that answers the last entry of the log, and 0 where that is accepted or the log has no entry.

@@ -52,10 +52,12 @@ pub record RepliesLast (x : Station) (d o : Desk) (l : List Vehicle) : Type 0 wh
 abbrev RepliesLastIn : Section → Type 0
 RepliesLastIn s = RepliesLast A (s .a) (s .b) (vehiclesOf s)
 
+-- from either station
 last-at : (x : Station) (s : Section) → RepliesLastIn s → RepliesLast x (deskOf s x) (deskOf s (otherAt x)) (vehiclesOf s)
 last-at A s k = k
 last-at B s k = record { own = k .far; far = k .own }
 
+-- the section with the vehicles l and x's desk e
 last-with : (s : Section) (x : Station) (e : Desk) (l : List Vehicle) → Well x e (deskOf s (otherAt x)) l → RepliesLast x e (deskOf s (otherAt x)) l
     → RepliesLastIn (withDesk (withVehicles s l) x e)
 last-with s A e l w k = rw (vehicles-with 24 l (w .fits)) k
@@ -71,12 +73,14 @@ grant-held g e none empty pays = by (ltb 0 g) refl
     by true some = rw (some, empty, pays (ltb-true 0 g some), some)
     by false zero = nothing-replied g e (no-test g zero) empty ∙ rw (no-test g zero, ← none)
 
+-- a station's own vehicle brings no reply
 own-same : (d : Desk) (t : ℕ) (m : Movement) → isOpener m ≡ true → d .waiting ≡ 0 → replied (grantedIn m) (ownDesk d t m) ≡ ownDesk d t m
 own-same d t (Open a) is empty = nothing-replied 0 _ refl empty
 own-same d t Through is empty = nothing-replied 0 _ refl empty
 own-same d t (Return a g) is empty = absurd (false≢true is)
 own-same d t (Train a g) is empty = absurd (false≢true is)
 
+-- the other's is replied to as document 01 has it
 other-same : (d : Desk) (t class : ℕ) (m : Movement) → d .clears .holds ≡ 0 → d .waiting ≡ 0 → (0 < grantedIn m → otherDesk d t class m .clears .owes ≡ 0)
     → replied (grantedIn m) (otherDesk d t class m) ≡ withHolds (holdsAfter01 m (d .clears .holds)) (otherDesk d t class m)
 other-same d t class (Open a) none empty pays = nothing-replied 0 _ refl empty
@@ -137,6 +141,7 @@ module _ (x : Station) (d o : Desk) (time : ℕ) (v : Vehicle) (l : List Vehicle
 
 -- ---- an act that document 01's tests let pass
 
+-- where the station owes nothing, today's tests of a TRAIN and document 01's come to the same
 same-tests : (d : Desk) (granted : ℕ) → d .clears .owes ≡ 0 → NoneHolds (trainTests01 d granted) → trainTests d granted ≡ trainTests01 d granted
 same-tests d granted free none =
     let above = or-left (ltb (d .clears .asked) granted) _ (none .1 .0) in

@@ -71,21 +71,21 @@ accepted-now B = refl
 -- ---- and a list that it accepts throughout, with a reply on the last train, is answered as before
 
 -- the reply on the last of the two trains, and both are in
-abbrev with-the-last : Station → List (List ℕ)
-with-the-last x = following x ++ receive (numberAt (otherAt x)) 150 (numberAt x) 2 ∷ receive (numberAt (otherAt x)) 160 (numberAt x) 3 ∷ []
+abbrev withTheLast : Station → List (List ℕ)
+withTheLast x = following x ++ receive (numberAt (otherAt x)) 150 (numberAt x) 2 ∷ receive (numberAt (otherAt x)) 160 (numberAt x) 3 ∷ []
 
-accepted-before : (x : Station) → acceptsBy stepOf01 fresh (done fresh (list (with-the-last x))) ≡ true
+accepted-before : (x : Station) → acceptsBy stepOf01 fresh (done fresh (list (withTheLast x))) ≡ true
 unfolding step-computes stepOf01
 accepted-before A = refl
 accepted-before B = refl
 
 -- every answer and every section, the section at the end, and that nothing waits, by the theorem
 answered-before : (x : Station)
-    → let l = list (with-the-last x) in
+    → let l = list (withTheLast x) in
     (results (runs fresh l) ≡ resultsBy stepOf01 fresh (done fresh l))
     × (after fresh l ≡ endBy stepOf01 fresh (done fresh l))
     × ((y : Station) → deskOf (after fresh l) y .waiting ≡ 0)
 answered-before x =
-    let l = list (with-the-last x) in
+    let l = list (withTheLast x) in
     let k = answered-as-before (done fresh l) (after fresh l) (runs fresh l) (accepted-before x) in
     (k .each, k .end, k .waiting)

@@ -80,7 +80,7 @@ own-same d t Through is empty = nothing-replied 0 _ refl empty
 own-same d t (Return a g) is empty = absurd (false≢true is)
 own-same d t (Train a g) is empty = absurd (false≢true is)
 
--- the other's is replied to as document 01 has it
+-- and the other's leaves the desk that document 01 has it leave
 other-same : (d : Desk) (t class : ℕ) (m : Movement) → d .clears .holds ≡ 0 → d .waiting ≡ 0 → (0 < grantedIn m → otherDesk d t class m .clears .owes ≡ 0)
     → replied (grantedIn m) (otherDesk d t class m) ≡ withHolds (holdsAfter01 m (d .clears .holds)) (otherDesk d t class m)
 other-same d t class (Open a) none empty pays = nothing-replied 0 _ refl empty

@@ -105,6 +105,7 @@ pub data Receipt (x : Station) (d : Desk) (t : ℕ) (v : Vehicle) : Desk → Typ
   of-other : isFrom (numberAt x) v ≡ false → Receipt x d t v (replied (grantedIn (v .movement)) (otherDesk d t (v .class) (v .movement)))
 
 pub receipt : (x : Station) (d : Desk) (t : ℕ) (v : Vehicle) → mayEnter x v ≡ true → Receipt x d t v (arriveDesk x d t v)
+unfolding arriveDesk
 receipt x d t v = by (isFrom (numberAt x) v) refl
   where
     back : Bool

@@ -158,7 +158,7 @@ abbrev pub replied : ℕ → Desk → Desk
 replied granted d = releasedDesk (grantedDesk granted d)
 
 -- any receipt, in this order: its own effect, of which a TRAIN lowers owes; the reply that the vehicle brings; and what waits
-abbrev pub arriveDesk : Station → Desk → ℕ → Vehicle → Desk
+unfoldable pub arriveDesk : Station → Desk → ℕ → Vehicle → Desk
 arriveDesk x d time v = replied (grantedIn (v .movement)) (takenDesk x d time v)
 
 -- ---- each kind

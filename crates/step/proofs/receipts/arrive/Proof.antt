@@ -4,10 +4,11 @@ use Rattle.step.proofs.receipts.arrive.Statement.{statement}
 use Rattle.step.proofs.receipts.arrive.Tie as tie
 use Rattle.step.proofs.Becoming.{desk-is}
 use Rattle.words.proofs.Becoming.{desk-then}
-use Rattle.working.specs.Effects.{replied, takenDesk}
+use Rattle.working.specs.Effects.{arriveDesk, replied, takenDesk}
 use borrow.Author.Needs.{needs}
 
 returns : tie.Need-returns
+unfolding arriveDesk
 returns c =
     let granted = c .before in
     let taken = granted .before .before in

@@ -1,7 +1,8 @@
 -- T-02: "Lists from fresh once accepted throughout are answered as before." Of every list of steps from fresh of which document 01's own step refuses none, today's step
 -- gives each the same answer and the same section, and nothing waits at the end: `answered-as-before`.
--- The two steps differ in refusal 16 on a TRAIN and in what a receipt makes of holds. In such a list a station that holds a line clear owes none, so that a TRAIN which
--- document 01 lets go is let go; and whoever receives a grant owes nothing after it, so that it is held at once (`ReplyLast`).
+-- The two steps differ in refusal 16 on a TRAIN, in what a receipt makes of holds, and in kind 9. In such a list a station that holds a line clear owes none, so that a
+-- TRAIN which document 01 lets go is let go; whoever receives a grant owes nothing after it, so that it is held at once (`ReplyLast`); and there is no entry of kind 9,
+-- since document 01 refuses each with 2 (`no-ninth`).
 -- Assumes nothing.
 use Prim.Native.Nat.{_<_, ℕ}
 use Rattle.working.proofs.Changes.{Change, arrival, change, departure, emptying, meeting, named-there, refusal, step-is, well-at}
@@ -18,19 +19,20 @@ use Rattle.working.proofs.Tests.{NoneHolds, both, no-test, none-holds, 
 use Rattle.working.proofs.Vehicles.{From, NotFrom, every-end, nearest, not-other, number-same, ordered-far}
 use Rattle.working.specs.Acts as acts
 use Rattle.working.specs.Acts.{Act}
-use Rattle.working.specs.Document01.{AnsweredAsBefore, arriveDesk01, entered01, holdsAfter01, onDecoded01, planOf01, stepOf01, testsOf01, trainTests01}
+use Rattle.working.specs.Document01.{AnsweredAsBefore, arriveDesk01, decode01, entered01, holdsAfter01, isNinth, onDecoded01, planOf01, stepOf01, testsOf01, trainTests01}
 use Rattle.working.specs.Effects.{Plan, arriveDesk, effectOf, grantedIn, otherDesk, ownDesk, replied}
 use Rattle.working.specs.Events.{At, Bad, Begin, Decoded, Meet, Resume, Says, decode}
 use Rattle.working.specs.Reasons.{departTests, mayEnter, testsOf, trainTests}
 use Rattle.working.specs.Refusals.{Test, firstOf}
 use Rattle.working.specs.Runs.{Done, Run, acceptsBy, endBy, next, resultsBy, resultsOf, stop}
 use Rattle.working.specs.Sections.{deskOf, freshDesk, insertAt, nearestAt, noneRefused, otherAt, vehiclesOf, withDesk, withHolds, withVehicles}
-use Rattle.working.specs.Steps.{doneBy, entered, metAt, onDecoded, planOf, stepOf, unlessRefused}
+use Rattle.working.specs.Steps.{doneBy, entered, ifMade, metAt, onDecoded, planOf, stepOf, unlessRefused}
 use Rattle.working.specs.Turns.{isAccepted}
 use Rattle.working.specs.WellMade.{isOpener, wellMade}
 use Rattle.working.specs.declared.Desk.{Desk}
-use Rattle.working.specs.declared.Movement.the-variants.{Open, Return, Through, Train}
+use Rattle.working.specs.declared.Movement.the-variants.{LastTrain, Open, Return, Through, Train}
 use Rattle.working.specs.declared.Movement.{Movement}
+use Rattle.working.specs.declared.Refusal.the-variants.{UnknownKind}
 use Rattle.working.specs.declared.Section.{Section}
 use Rattle.working.specs.declared.Station.the-variants.{A, B}
 use Rattle.working.specs.declared.Station.{Station}
@@ -40,7 +42,7 @@ use Rattle.working.specs.declared.Verdict.the-variants.{Allowed, Refused
 use Rattle.working.specs.declared.Verdict.{Verdict}
 use borrow.Author.Tests.{lt-ltb, ltb-false, ltb-true}
 use lib.Dec.{ltb}
-use mathlib.Core.Bool.{Bool, _&&_, and-false, false, false≢true, true}
+use mathlib.Core.Bool.{Bool, _&&_, and-false, cond, false, false≢true, true}
 use mathlib.Core.List.{List, [], _++_, _∷_}
 use mathlib.Core.Path.{_∙_, _≡_, ap, ap₂, refl, sym}
 
@@ -79,6 +81,7 @@ own-same d t (Open a) is empty = nothing-replied 0 _ refl empty
 own-same d t Through is empty = nothing-replied 0 _ refl empty
 own-same d t (Return a g) is empty = absurd (false≢true is)
 own-same d t (Train a g) is empty = absurd (false≢true is)
+own-same d t (LastTrain a g u) is empty = absurd (false≢true is)
 
 -- and the other's leaves the desk that document 01 has it leave
 other-same : (d : Desk) (t class : ℕ) (m : Movement) → d .clears .holds ≡ 0 → d .waiting ≡ 0 → (0 < grantedIn m → otherDesk d t class m .clears .owes ≡ 0)
@@ -87,6 +90,7 @@ other-same d t class (Open a) none empty pays = nothing-replied 0 _ refl empty
 other-same d t class Through none empty pays = nothing-replied 0 _ refl empty
 other-same d t class (Return a g) none empty pays = grant-held g _ none empty pays
 other-same d t class (Train a g) none empty pays = grant-held g _ none empty pays
+other-same d t class (LastTrain a g u) none empty pays = grant-held g _ none empty pays
 
 -- before the reply is read, a station's own vehicle leaves the line clears as they were
 own-stays : (d : Desk) (t : ℕ) (m : Movement) → (ownDesk d t m .clears ≡ d .clears) × (ownDesk d t m .waiting ≡ d .waiting)
@@ -94,6 +98,7 @@ own-stays d t (Open a) = (refl, refl)
 own-stays d t Through = (refl, refl)
 own-stays d t (Return a g) = (refl, refl)
 own-stays d t (Train a g) = (refl, refl)
+own-stays d t (LastTrain a g u) = (refl, refl)
 
 -- a vehicle v that may enter is taken at x: the desk e after it
 module _ (x : Station) (d o : Desk) (time : ℕ) (v : Vehicle) (l : List Vehicle)
@@ -157,12 +162,12 @@ act-as : (act : Act) (x : Station) (force : Bool) (d o : Desk) (time : ℕ) (l :
 act-as (acts.Open view class asked) x force d o time l w h k passes = record { plan = refl; allowed = tt }
 act-as (acts.Through view) x force d o time l w h k passes = record { plan = refl; allowed = tt }
 act-as (acts.Return asked granted) x force d o time l w h k passes = record { plan = refl; allowed = tt }
-act-as (acts.Train view asked granted) x force d o time l w h k passes =
+act-as (acts.Train endorsed view asked granted) x force d o time l w h k passes =
     let own = depart-passes force d time (trainTests01 d granted) (none-holds (departTests force d time (trainTests01 d granted)) passes) .own in
     let leaves-some = or-right (ltb (d .clears .asked) granted) (ltb 0 granted && ltb 1 (d .clears .holds)) (own .1 .0) in
     let same = same-tests d granted (k .own .owes (some-test _ (own .0))) own in
     record {
-      plan = ap (λ (tests : List Test). unlessRefused (firstOf (departTests force d time tests)) (effectOf (acts.Train view asked granted) x d time (nearestAt x l))) same;
+      plan = ap (λ (tests : List Test). unlessRefused (firstOf (departTests force d time tests)) (effectOf (acts.Train endorsed view asked granted) x d time (nearestAt x l))) same;
       allowed = λ some. ltb-false 1 _ (rw (lt-ltb 0 granted some) at leaves-some);
     }
 act-as (acts.Receive sender form) x force d o time l w h k passes =
@@ -227,16 +232,27 @@ last-change s e r g k allows (meeting x y n i f w) =
     let present = vehicles-with 24 (metAt x i (vehiclesOf s)) (w .fits) in
     record { own = rw (present, moves-met A x i (vehiclesOf s)) (k .own); far = rw (present, moves-met B x i (vehiclesOf s)) (k .far) }
 
-step-01-is : (s : Section) (bytes : List ℕ) → wellMade s ≡ true → stepOf01 s bytes ≡ onDecoded01 s (decode bytes)
-unfolding stepOf01
-step-01-is s bytes made = rw made
+-- bytes that document 01's step accepts are no entry of kind 9
+pub no-ninth : (s : Section) (bytes : List ℕ) → isAccepted (stepOf01 s bytes .answer) ≡ true → isNinth bytes ≡ false
+unfolding decode01 stepOf01
+no-ninth s bytes = by (wellMade s) (isNinth bytes)
+  where
+    by : (made ninth : Bool) → isAccepted (ifMade made s (onDecoded01 s (cond ninth (Bad UnknownKind) (decode bytes))) .answer) ≡ true → ninth ≡ false
+    by true true accepted = absurd (false≢true accepted)
+    by false true accepted = absurd (false≢true accepted)
+    by made false accepted = refl
+
+step-01-is : (s : Section) (bytes : List ℕ) → wellMade s ≡ true → isNinth bytes ≡ false → stepOf01 s bytes ≡ onDecoded01 s (decode bytes)
+unfolding decode01 stepOf01
+step-01-is s bytes made other = rw (made, other)
 
 step-as : (s : Section) (bytes : List ℕ) → Good s → RepliesLastIn s → isAccepted (stepOf01 s bytes .answer) ≡ true
     → (stepOf s bytes ≡ stepOf01 s bytes) × RepliesLastIn (stepOf s bytes .section)
 step-as s bytes g k accepted =
     let made = g .sound .well in
-    let (same, allows) = decoded-as s (decode bytes) g k (rw (step-01-is s bytes made) at accepted) in
-    (step-is s bytes made ∙ same ∙ sym (step-01-is s bytes made), last-change s (decode bytes) (stepOf s bytes) g k allows (change s bytes (g .sound)))
+    let is = step-01-is s bytes made (no-ninth s bytes accepted) in
+    let (same, allows) = decoded-as s (decode bytes) g k (rw is at accepted) in
+    (step-is s bytes made ∙ same ∙ sym is, last-change s (decode bytes) (stepOf s bytes) g k allows (change s bytes (g .sound)))
 
 -- ---- the list
 

@@ -7,7 +7,7 @@ use Rattle.working.specs.Entries.{every}
 use Rattle.working.specs.Sections.{deskOf, vehiclesOf, numberAt}
 use Rattle.working.specs.WellMade.{Figure, Range, all, any, countFrom, deskFigures, deskTests, differ, isBlank, isBlankMovement, isFrom, isIdle, isOpener, madeTests, movementTests, notLater, numbered, ordered, shaped, upTo, vehicleTests, wellMade}
 use Rattle.working.specs.declared.Desk.{Desk}
-use Rattle.working.specs.declared.Movement.the-variants.{Open, Return, Through, Train}
+use Rattle.working.specs.declared.Movement.the-variants.{LastTrain, Open, Return, Through, Train}
 use Rattle.working.specs.declared.Movement.{Movement}
 use Rattle.working.specs.declared.Section.{Section}
 use Rattle.working.specs.declared.Station.the-variants.{A, B}
@@ -40,6 +40,7 @@ MovementMade (Open a) c = Carried 1 5 1 c a 0
 MovementMade Through c = Carried 1 1 0 c 0 0
 MovementMade (Return a g) c = Carried 1 5 0 c a g
 MovementMade (Train a g) c = Carried 0 0 0 c a g
+MovementMade (LastTrain a g u) c = Carried 0 0 0 c a g × (u ≤ 7)
 
 pub movement-made : (m : Movement) (c : ℕ) → every (movementTests m c) ≡ true → MovementMade m c
 movement-made m c h = by m (each-holds (movementTests m c) h)
@@ -49,6 +50,7 @@ movement-made m c h = by m (each-holds (movementTests m c) h)
     by Through e = omega (arith, eqb-true)
     by (Return a g) e = omega (arith, leb-true)
     by (Train a g) e = omega (arith, eqb-true, leb-true)
+    by (LastTrain a g u) e = omega (arith, eqb-true, leb-true)
 
 pub movement-tests : (m : Movement) (c : ℕ) → MovementMade m c → every (movementTests m c) ≡ true
 movement-tests m c h = every-holds (movementTests m c) (by m h)
@@ -58,6 +60,7 @@ movement-tests m c h = every-holds (movementTests m c) (by m h)
     by Through h = omega (arith, eq-eqb)
     by (Return a g) h = omega (arith, le-leb)
     by (Train a g) h = omega (arith, eq-eqb, le-leb)
+    by (LastTrain a g u) h = omega (arith, eq-eqb, le-leb)
 
 -- ---- a vehicle
 
@@ -89,6 +92,7 @@ blank-movement (Open a) h = rw (eqb-true a 0 h)
 blank-movement Through h = absurd (false≢true h)
 blank-movement (Return a g) h = absurd (false≢true h)
 blank-movement (Train a g) h = absurd (false≢true h)
+blank-movement (LastTrain a g u) h = absurd (false≢true h)
 
 pub blank-made : (v : Vehicle) → isBlank v ≡ true → Blank v
 blank-made v h =

@@ -9,7 +9,7 @@ use Rattle.working.proofs.Lists.{Todo, after, done, runs}
 use Rattle.working.proofs.Literals.{begin, counts, figures, opens, plain, receive, resume, returns, returnsAsking, sameSection, through, train, trainGranting, vehicle, working}
 use Rattle.working.proofs.Tests.{both}
 use Rattle.working.specs.Acts as acts
-use Rattle.working.specs.Demand3.{isDeparture, onTheWayTo, trainsOf, vehicleAt}
+use Rattle.working.specs.Demand3.{givenUpBy, isDeparture, onTheWayTo, trainsOf, vehicleAt}
 use Rattle.working.specs.Departures.{Departure, Kind, OPEN, RETURN, THROUGH, TRAIN, departureOf, kindIn, leftSlowly}
 use Rattle.working.specs.Effects.{isSlow}
 use Rattle.working.specs.Entries.{every}
@@ -47,7 +47,7 @@ alternately inPlace (bytes ∷ l) = record { form = inPlace; bytes = bytes } ∷
 abbrev pub list : List (List ℕ) → List Todo
 list l = alternately byValue (begin ∷ l)
 
-abbrev handed : Form → List ℕ → Answer → Done
+abbrev pub handed : Form → List ℕ → Answer → Done
 handed form bytes answer = record { form = form; bytes = bytes; answer = answer }
 
 -- the vehicle at a place after a list, and its departure in that list
@@ -57,7 +57,7 @@ there l i = vehicleAt (after fresh l) i
 abbrev leftBy : List Todo → ℕ → Option Departure
 leftBy l i = departureOf (done fresh l) (there l i)
 
-abbrev departure : Station → Kind → ℕ → ℕ → Speed → Departure
+abbrev pub departure : Station → Kind → ℕ → ℕ → Speed → Departure
 departure station kind number forms speed = record { station = station; kind = kind; number = number; forms = forms; speed = speed }
 
 -- station x opens, asking for two trains. The other's RETURN asks for three and grants the two. x takes it, and sends both trains, the second granting the three.
@@ -94,10 +94,10 @@ kind-of-record : (l : List Todo) (i : ℕ) {p : Departure} → i < after fresh l
 kind-of-record l i present left = let d = demand3 (runs fresh l) .departed i present in cc (d .1, d .2)
 
 -- a vehicle's record, its departure, and that the two are of one kind
-abbrev Left : List (List ℕ) → ℕ → Movement → Departure → Type 0
+abbrev pub Left : List (List ℕ) → ℕ → Movement → Departure → Type 0
 Left l i movement p = (there (list l) i .movement ≡ movement) × (leftBy (list l) i ≡ some p) × (p .kind ≡ kindIn movement)
 
-left : (l : List (List ℕ)) (i n : ℕ) {movement : Movement} {p : Departure}
+pub left : (l : List (List ℕ)) (i n : ℕ) {movement : Movement} {p : Departure}
     → after fresh (list l) .len ≡ n → i < n → there (list l) i .movement ≡ movement → leftBy (list l) i ≡ some p → Left l i movement p
 left l i n many less record-is left-is = let k = kind-of-record (list l) i (omega arith) left-is in (record-is, left-is, cc)
 
@@ -224,6 +224,7 @@ record Balance : Type 0 where
   holds : ℕ
   waits : ℕ
   trains : ℕ
+  given-up : ℕ
   way : ℕ
 
 abbrev balanceOf : List Todo → Station → Balance
@@ -233,35 +234,40 @@ balanceOf l x = record {
   holds = deskOf (after fresh l) (otherAt x) .clears .holds;
   waits = deskOf (after fresh l) (otherAt x) .waiting;
   trains = trainsOf (done fresh l) (after fresh l) (otherAt x);
+  given-up = givenUpBy (after fresh l) (otherAt x);
   way = onTheWayTo (after fresh l) (otherAt x);
 }
 
-balance : (l : List Todo) (x : Station) (b : Balance) → balanceOf l x ≡ b → b .force ≡ true → b .owes ≡ b .holds + b .waits + b .trains + b .way
+balance : (l : List Todo) (x : Station) (b : Balance) → balanceOf l x ≡ b → b .force ≡ true
+    → b .owes ≡ b .holds + b .waits + b .trains + b .given-up + b .way
 balance l x b e force =
     let o : deskOf (after fresh l) x .clears .owes ≡ b .owes = ap (λ (z : Balance). z .owes) e in
     let h : deskOf (after fresh l) (otherAt x) .clears .holds ≡ b .holds = ap (λ (z : Balance). z .holds) e in
     let k : deskOf (after fresh l) (otherAt x) .waiting ≡ b .waits = ap (λ (z : Balance). z .waits) e in
     let t : trainsOf (done fresh l) (after fresh l) (otherAt x) ≡ b .trains = ap (λ (z : Balance). z .trains) e in
+    let u : givenUpBy (after fresh l) (otherAt x) ≡ b .given-up = ap (λ (z : Balance). z .given-up) e in
     let w : onTheWayTo (after fresh l) (otherAt x) ≡ b .way = ap (λ (z : Balance). z .way) e in
     omega (arith, demand3 (runs fresh l) .owed (ap (λ (z : Balance). z .force) e ∙ force) x)
 
 -- a list in force with these figures, and that the first is the sum of the rest
-abbrev pub Owed : List (List ℕ) → Station → ℕ → ℕ → ℕ → ℕ → ℕ → Type 0
-Owed l x owes holds waits trains way =
-    (balanceOf (list l) x ≡ record { force = true; owes = owes; holds = holds; waits = waits; trains = trains; way = way }) × (owes ≡ holds + waits + trains + way)
+abbrev pub Owed : List (List ℕ) → Station → ℕ → ℕ → ℕ → ℕ → ℕ → ℕ → Type 0
+Owed l x owes holds waits trains given-up way =
+    (balanceOf (list l) x ≡ record { force = true; owes = owes; holds = holds; waits = waits; trains = trains; given-up = given-up; way = way })
+    × (owes ≡ holds + waits + trains + given-up + way)
 
-pub owed : (l : List (List ℕ)) (x : Station) {owes holds waits trains way : ℕ}
-    → balanceOf (list l) x ≡ record { force = true; owes = owes; holds = holds; waits = waits; trains = trains; way = way } → Owed l x owes holds waits trains way
+pub owed : (l : List (List ℕ)) (x : Station) {owes holds waits trains given-up way : ℕ}
+    → balanceOf (list l) x ≡ record { force = true; owes = owes; holds = holds; waits = waits; trains = trains; given-up = given-up; way = way }
+    → Owed l x owes holds waits trains given-up way
 owed l x e = (e, balance (list l) x _ e refl)
 
 -- x is the station that opened, and the other owes it two: on a RETURN on the way, then held, then one held and one on the line, then both on the line;
 -- x owes the three that its last train takes along
 either-station : (x : Station)
-    → Owed (granting x) (otherAt x) 2 0 0 0 2
-    × Owed (holding x) (otherAt x) 2 2 0 0 0
-    × Owed (running x) (otherAt x) 2 1 0 1 0
-    × Owed (following x) (otherAt x) 2 0 0 2 0
-    × Owed (following x) x 3 0 0 0 3
+    → Owed (granting x) (otherAt x) 2 0 0 0 0 2
+    × Owed (holding x) (otherAt x) 2 2 0 0 0 0
+    × Owed (running x) (otherAt x) 2 1 0 1 0 0
+    × Owed (following x) (otherAt x) 2 0 0 2 0 0
+    × Owed (following x) x 3 0 0 0 0 3
 unfolding step-computes
 either-station A = (owed (granting A) B refl, owed (holding A) B refl, owed (running A) B refl, owed (following A) B refl, owed (following A) A refl)
 either-station B = (owed (granting B) A refl, owed (holding B) A refl, owed (running B) A refl, owed (following B) A refl, owed (following B) B refl)
@@ -356,11 +362,11 @@ train-and-receipt-exchanged : Run fresh (oneSent ++ firstTaken ∷ secondSent �
     × Run fresh (oneSent ++ secondSent ∷ firstTaken ∷ behind) (after fresh takenThenSent)
 unfolding step-computes
 train-and-receipt-exchanged = (
-  demand3 (runs fresh sentThenTaken) .swap oneSent secondSent firstTaken behind A B (acts.Train Clear 0 0) (acts.Receive A 2) refl
+  demand3 (runs fresh sentThenTaken) .swap oneSent secondSent firstTaken behind A B (acts.Train false Clear 0 0) (acts.Receive A 2) refl
       (record { time = 121; entry = refl; accepted = refl })
       (record { time = 115; entry = refl; accepted = refl })
       (other-differs A) (λ r. let e = r .1 in let z : _≡_ {A = ℕ} 2 3 = cc in omega arith),
-  demand3 (runs fresh takenThenSent) .swap oneSent firstTaken secondSent behind B A (acts.Receive A 2) (acts.Train Clear 0 0) refl
+  demand3 (runs fresh takenThenSent) .swap oneSent firstTaken secondSent behind B A (acts.Receive A 2) (acts.Train false Clear 0 0) refl
       (record { time = 115; entry = refl; accepted = refl })
       (record { time = 121; entry = refl; accepted = refl })
       (other-differs B) (λ r. false≢true (r .0)),

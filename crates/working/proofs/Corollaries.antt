@@ -1,19 +1,21 @@
 -- Of every list of steps from a fresh section: no step is refused with 5, since every section on the way is well made and no other test gives 5;
--- where a TRAIN of the other station is the nearest, the station owes a line clear, so that "not below 0" never acts;
+-- where a train of the other station is the nearest, the station owes a line clear, so that "not below 0" never acts;
+-- where that train is endorsed as the last, it and what it gives up are all that the station owes, so that "becomes 0" forgives nothing else;
 -- and a station that holds line clears and owes some is asked for none, so that a TRAIN's grant while it owes is above what is asked: that half of 16 never decides alone.
 -- Assumes nothing.
 use Prim.Native.Nat.{_+_, _<_, ℕ}
-use Rattle.working.proofs.Changes.{step-is}
+use Rattle.working.proofs.Changes.{step-is, well-at}
 use Rattle.working.proofs.Demand3.{kept}
 use Rattle.working.proofs.Found.{Found, cut, found, the-end, whole}
-use Rattle.working.proofs.Invariant.{trainOne, trains, weigh-snoc}
+use Rattle.working.proofs.Invariant.{Halves, closed, isLast, spent, spentIn, trainOne, weigh-snoc}
 use Rattle.working.proofs.Kept.{kept-at}
-use Rattle.working.proofs.Vehicles.{nearest}
+use Rattle.working.proofs.Vehicles.{From, nearest, not-own, ordered-far}
 use Rattle.working.proofs.Lists.{split-run, step-did}
-use Rattle.working.proofs.Sides.{moves-far, movesOf}
+use Rattle.working.proofs.Sides.{moves-far, moves-none, moves-skip, movesOf}
 use Rattle.working.proofs.Tests.{both}
 use Rattle.working.specs.Acts as acts
 use Rattle.working.specs.Acts.{Act}
+use Rattle.working.specs.Demand3.{givenUpIn}
 use Rattle.working.specs.Departures.{isTrain, kindIn}
 use Rattle.working.specs.Effects.{Plan}
 use Rattle.working.specs.Entries.{entryIn, entryTests, judge, lengthOf, mapIn, readAs, readAt}
@@ -27,6 +29,8 @@ use Rattle.working.specs.WellMade.{isFrom}
 use Rattle.working.specs.declared.Answer.the-variants as answer
 use Rattle.working.specs.declared.Answer.{Answer}
 use Rattle.working.specs.declared.Desk.{Desk}
+use Rattle.working.specs.declared.Movement.the-variants.{LastTrain, Open, Return, Through, Train}
+use Rattle.working.specs.declared.Movement.{Movement}
 use Rattle.working.specs.declared.Refusal.{Refusal}
 use Rattle.working.specs.declared.Section.{Section}
 use Rattle.working.specs.declared.Station.{Station}
@@ -35,7 +39,7 @@ use Rattle.working.specs.declared.Verdict.the-variants.{Allowed, Refused
 use Rattle.working.specs.declared.Verdict.{Verdict}
 use lib.Dec.{eqb}
 use lib.ListN.{length}
-use mathlib.Core.Bool.{Bool, _&&_, false, not, true}
+use mathlib.Core.Bool.{Bool, _&&_, false, false≢true, not, true}
 use mathlib.Core.List.{List, [], _++_, _∷_}
 use mathlib.Core.Path.{_∙_, _≡_, ap, refl}
 use native.Mathlib.Omega.{arith}
@@ -87,7 +91,7 @@ module _ (s : Section) where
   fine-act e x (acts.Open view class asked) force d time v = fine-done e x (testsOf (acts.Open view class asked) x force d time v) _ refl tt
   fine-act e x (acts.Through view) force d time v = fine-done e x (testsOf (acts.Through view) x force d time v) _ refl tt
   fine-act e x (acts.Return asked granted) force d time v = fine-done e x (testsOf (acts.Return asked granted) x force d time v) _ refl tt
-  fine-act e x (acts.Train view asked granted) force d time v = fine-done e x (testsOf (acts.Train view asked granted) x force d time v) _ refl tt
+  fine-act e x (acts.Train endorsed view asked granted) force d time v = fine-done e x (testsOf (acts.Train endorsed view asked granted) x force d time v) _ refl tt
   fine-act e x (acts.Receive sender form) force d time v = fine-done e x (testsOf (acts.Receive sender form) x force d time v) _ refl tt
 
   fine-entered : (e : Event) → Fine (entered s e .answer)
@@ -139,7 +143,31 @@ train-owed {s = s} run x there from train =
     let far = otherAt x in
     let one : trainOne (v .movement) ≡ 1 = rw (rw (k .near) at train) in
     let theirs = ap (movesOf far) (k .whole) ∙ moves-far x v (k .others) (rw (k .near) at from) in
-    omega (arith, kept-at x s (kept run .good) .own .sum, ap trains theirs, weigh-snoc trainOne (movesOf far (k .others)) (v .movement))
+    omega (arith, kept-at x s (kept run .good) .own .sum, ap spent theirs, weigh-snoc spentIn (movesOf far (k .others)) (v .movement))
+
+-- ---- of a TRAIN endorsed as the last that comes, all that is owed is that train and what it gives up
+
+one-train : (m : Movement) → isLast m ≡ true → trainOne m ≡ 1
+one-train (Open a) last = absurd (false≢true last)
+one-train Through last = absurd (false≢true last)
+one-train (Return a g) last = absurd (false≢true last)
+one-train (Train a g) last = absurd (false≢true last)
+one-train (LastTrain a g u) last = refl
+
+pub last-train-owed : {l : List Done} {s : Section} → Run fresh l s → (x : Station) → 0 < length (vehiclesOf s)
+    → isFrom (numberAt (otherAt x)) (nearestAt x (vehiclesOf s)) ≡ true → isLast (nearestAt x (vehiclesOf s) .movement) ≡ true
+    → deskOf s x .clears .owes ≡ 1 + givenUpIn (nearestAt x (vehiclesOf s) .movement)
+last-train-owed {s = s} run x there from last =
+    let k = nearest x (vehiclesOf s) there in
+    let v = k .vehicle in
+    let good = kept run .good in
+    let its : From (otherAt x) v = rw (k .near) at from in
+    let skip = moves-skip x v (k .others) (not-own x v its) in
+    let none = moves-none x (k .others) (ordered-far x v (k .others) (not-own x v its) (rw (k .whole) at (well-at s x (good .sound) .order)) .1) in
+    let both : Halves (deskOf s x) (deskOf s (otherAt x)) [] (movesOf (otherAt x) (k .others) ++ v .movement ∷ []) =
+        rw (k .whole, skip, none, moves-far x v (k .others) its) at (kept-at x s good) in
+    let is : isLast (v .movement) ≡ true = rw (k .near) at last in
+    rw (k .near) (omega (arith, closed (deskOf s x) (deskOf s (otherAt x)) (v .movement) (movesOf (otherAt x) (k .others)) both is, one-train (v .movement) is))
 
 -- ---- a TRAIN's grant while its station owes
 

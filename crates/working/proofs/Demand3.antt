@@ -10,10 +10,11 @@ use Rattle.working.proofs.Lists.{StepDid, each-result, join-run, split-
 use Rattle.working.proofs.Made.{length-vehicles}
 use Rattle.working.proofs.Opposed.{opposed-openers}
 use Rattle.working.proofs.Swap.{Opposite, ab, ba, swapped}
-use Rattle.working.proofs.Told.{Told, granted-vehicles, told-change, trains-told}
+use Rattle.working.proofs.Told.{Told, carried, spent-told, told-change}
 use Rattle.working.specs.Acts.{Act}
-use Rattle.working.specs.Demand3.{AcceptedAt, Demand3, ReceivesIt, onTheWayTo, trainsOf, vehicleAt}
+use Rattle.working.specs.Demand3.{AcceptedAt, Demand3, ReceivesIt, givenUpBy, onTheWayTo, trainsOf, vehicleAt}
 use Rattle.working.specs.Departures.{departureOf, leftSlowly}
+use Rattle.working.specs.Effects.{grantedIn}
 use Rattle.working.specs.Events.{decode}
 use Rattle.working.specs.Runs.{Done, Run, StepBy, next, stop}
 use Rattle.working.specs.Sections.{deskOf, fresh, noneRefused, otherAt, unused, vehiclesOf}
@@ -101,6 +102,7 @@ demand3 {l} {s} run = record {
     slow i there opener = let t = told i there in rw (t .is) (t .slowly opener)
 
     owed : (x : Station)
-        → deskOf s x .clears .owes ≡ deskOf s (otherAt x) .clears .holds + deskOf s (otherAt x) .waiting + trainsOf l s (otherAt x) + onTheWayTo s (otherAt x)
-    owed A = omega (arith, k .good .kept .own .sum, trains-told l B (vehiclesOf s) (k .told), granted-vehicles A (vehiclesOf s))
-    owed B = omega (arith, k .good .kept .far .sum, trains-told l A (vehiclesOf s) (k .told), granted-vehicles B (vehiclesOf s))
+        → deskOf s x .clears .owes
+          ≡ deskOf s (otherAt x) .clears .holds + deskOf s (otherAt x) .waiting + trainsOf l s (otherAt x) + givenUpBy s (otherAt x) + onTheWayTo s (otherAt x)
+    owed A = omega (arith, k .good .kept .own .sum, spent-told l B (vehiclesOf s) (k .told), carried grantedIn A (vehiclesOf s))
+    owed B = omega (arith, k .good .kept .far .sum, spent-told l A (vehiclesOf s) (k .told), carried grantedIn B (vehiclesOf s))

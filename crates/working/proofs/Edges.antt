@@ -7,7 +7,7 @@
 use Prim.Native.Nat.{_+_, suc, ℕ}
 use Rattle.working.proofs.Computing.{step-computes}
 use Rattle.working.proofs.Literals.{begin, counts, figures, meet, opens, plain, receive, resume, returns, sameSection, through, train, vehicle, working}
-use Rattle.working.specs.Document01.{stepOf01}
+use Rattle.working.specs.Document01.{decode01, stepOf01}
 use Rattle.working.specs.Entries.{every}
 use Rattle.working.specs.Sections.{fresh, freshDesk, noneRefused}
 use Rattle.working.specs.Steps.{stepOf}
@@ -174,7 +174,7 @@ edges-leave = refl
 
 -- and document 01's own step, which stays as a definition, holds to its own edges
 pub edges-hold-01 : (answersBy stepOf01 edges ≡ expectedOf edges) × (leavingAnotherBy stepOf01 1 edges ≡ [])
-unfolding edges eleven guest holding met step-computes stepOf01 worn
+unfolding decode01 edges eleven guest holding met step-computes stepOf01 worn
 edges-hold-01 = (refl, refl)
 
 -- the sections that the rows find, in figures

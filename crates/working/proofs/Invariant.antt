@@ -1,25 +1,29 @@
 -- The invariant behind demand 3, and that each kind of departure and receipt keeps it. It is stated from one station's side: its desk d, the other's desk o, and what
 -- the vehicles of each left on, nearest their sender first (`mine`, `theirs`); so no proof here names A or B. docs/THEOREM.md has the clauses in words:
---     SUM     owes = the other's holds + what waits at the other + the other's trains + what the own vehicles grant      `sum`
+--     SUM     owes = the other's holds + what waits at the other + the other's trains + what these give up + what the own vehicles grant      `sum`
 --     OUT     out says whether the opener is away: a guest at the other end, the own OPEN, or the other's RETURN nearest here      `outs`
 --     GUEST   a desk with a guest: nothing in the section, no guest opposite, holds and owes nothing, and nothing waits      `guests`
---     HOLDS   a desk that holds a line clear: the other holds none, nothing waits here, every vehicle is a TRAIN of its own, and nothing is asked here where it owes
---             `holding`
---     WAIT    a desk where line clears wait: it owes, holds none, and every vehicle is a TRAIN of the other that grants nothing      `waits`
---     NEAR    an OPEN is nearest its sender; nearer it than a vehicle with a grant there are only TRAINs that grant nothing      `row`, by `Ahead`
+--     HOLDS   a desk that holds a line clear: the other holds none, nothing waits here, every vehicle is a TRAIN of its own that is not endorsed as the last, and nothing
+--             is asked here where it owes      `holding`
+--     WAIT    a desk where line clears wait: it owes, holds none, and every vehicle is a train of the other that grants nothing      `waits`
+--     NEAR    an OPEN is nearest its sender; nearer it than a vehicle with a grant there are only trains that grant nothing, and nearer it than a TRAIN endorsed as the
+--             last only OPENs and THROUGHs      `row`, by `Ahead`
 --     RETURN  a RETURN is nearest the other station      `row`, by `Ahead`; `clear`
---     FRONT   ahead of a RETURN or TRAIN there are only such, of the same sender      `row`, by `Ahead`; `clear`
+--     FRONT   ahead of a RETURN or a train there are only such, of the same sender      `row`, by `Ahead`; `clear`
+-- A train is a TRAIN, endorsed as the last or not. Where one that is arrives, all that the station owes is that train and what it gives up (`closed`), so that "becomes
+-- 0" and the sum agree.
 -- Assumes nothing.
 use Prim.Native.Nat.{_+_, _-_, _<_, ℕ}
 use Rattle.working.proofs.Every.{Every, every-before, every-map}
 use Rattle.working.proofs.Reasons.{OpenPasses, ReturnPasses, TrainPasses}
 use Rattle.working.proofs.Tests.{clash, no-test, or-left, or-right, some-test, zero-test, zero-unless}
+use Rattle.working.specs.Demand3.{givenUpIn}
 use Rattle.working.specs.Departures.{isTrain, kindIn}
-use Rattle.working.specs.Effects.{departed, grantedDesk, grantedIn, ifAny, otherDesk, received, releasedDesk, replied, returnDesk, trainDesk}
+use Rattle.working.specs.Effects.{clearsLeft, departed, grantedDesk, grantedIn, ifAny, otherDesk, received, releasedDesk, replied, returnDesk, trainDesk, trainMovement}
 use Rattle.working.specs.Sections.{withOut}
 use Rattle.working.specs.WellMade.{isOpener, oneIf}
 use Rattle.working.specs.declared.Desk.{Desk}
-use Rattle.working.specs.declared.Movement.the-variants.{Open, Return, Through, Train}
+use Rattle.working.specs.declared.Movement.the-variants.{LastTrain, Open, Return, Through, Train}
 use Rattle.working.specs.declared.Movement.{Movement}
 use borrow.Author.Tests.{eqb-true, lt-ltb, ltb-false, ltb-true}
 use lib.Dec.{eqb, ltb}
@@ -35,14 +39,24 @@ isOpen (Open a) = true
 isOpen Through = false
 isOpen (Return a g) = false
 isOpen (Train a g) = false
+isOpen (LastTrain a g u) = false
 
 abbrev pub isReturn : Movement → Bool
 isReturn (Open a) = false
 isReturn Through = false
 isReturn (Return a g) = true
 isReturn (Train a g) = false
+isReturn (LastTrain a g u) = false
 
--- OPEN or THROUGH, and TRAIN
+-- a TRAIN endorsed as the last
+abbrev pub isLast : Movement → Bool
+isLast (Open a) = false
+isLast Through = false
+isLast (Return a g) = false
+isLast (Train a g) = false
+isLast (LastTrain a g u) = true
+
+-- OPEN or THROUGH, and a train
 abbrev pub Opens : Movement → Type 0
 Opens m = isOpener m ≡ true
 
@@ -56,13 +70,21 @@ abbrev pub weigh : (Movement → ℕ) → List Movement → ℕ
 weigh f [] = 0
 weigh f (m ∷ l) = f m + weigh f l
 
-abbrev pub trains : List Movement → ℕ
-trains l = weigh trainOne l
+-- the line clears that a vehicle uses and gives up: a train's own, and those that it carries
+abbrev pub spentIn : Movement → ℕ
+spentIn m = trainOne m + givenUpIn m
+
+abbrev pub spent : List Movement → ℕ
+spent l = weigh spentIn l
 
 abbrev pub granted : List Movement → ℕ
 granted l = weigh grantedIn l
 
--- a TRAIN that grants nothing
+-- a train that is not endorsed as the last; a train that grants nothing
+pub record Plain (m : Movement) : Type 0 where
+  pub train : Trains m
+  pub more : isLast m ≡ false
+
 pub record Bare (m : Movement) : Type 0 where
   pub train : Trains m
   pub grants : grantedIn m ≡ 0
@@ -71,9 +93,10 @@ pub record Bare (m : Movement) : Type 0 where
 pub record Ahead (m n : Movement) : Type 0 where
   -- RETURN: ahead of a RETURN there is nothing
   pub return : isReturn m ≡ false
-  -- NEAR: what is ahead is no OPEN, and grants nothing unless it is followed by TRAINs that grant nothing
+  -- NEAR: what is ahead is no OPEN, grants nothing unless it is followed by trains that grant nothing, and is endorsed as the last only where no train follows it
   pub no-open : isOpen n ≡ false
   pub grants : 0 < grantedIn n → Bare m
+  pub last : isLast n ≡ true → isOpener m ≡ true
   -- FRONT: ahead of a fast one all are fast
   pub fast : isOpener m ≡ false → isOpener n ≡ false
 
@@ -104,7 +127,7 @@ pub record Holding (d o : Desk) (mine theirs : List Movement) : Type 0 where
   pub far-holds : o .clears .holds ≡ 0
   pub waiting : d .waiting ≡ 0
   pub none-far : theirs ≡ []
-  pub trains : Every Trains mine
+  pub trains : Every Plain mine
   pub asked : 0 < d .clears .owes → d .clears .asked ≡ 0
 
 pub record Waits (d : Desk) (mine theirs : List Movement) : Type 0 where
@@ -119,7 +142,7 @@ pub data Clear (mine theirs : List Movement) : Type 0 where
   no-far : theirs ≡ [] → Clear mine theirs
 
 pub record Half (d o : Desk) (mine theirs : List Movement) : Type 0 where
-  pub sum : d .clears .owes ≡ o .clears .holds + o .waiting + trains theirs + granted mine
+  pub sum : d .clears .owes ≡ o .clears .holds + o .waiting + spent theirs + granted mine
   pub outs : d .out ≡ (ltb 0 (o .guest) || awayAt mine theirs)
   pub guests : 0 < d .guest → Visited d o mine theirs
   pub holding : 0 < d .clears .holds → Holding d o mine theirs
@@ -168,30 +191,36 @@ pub weigh-snoc : (f : Movement → ℕ) (l : List Movement) (m : Movement) → w
 weigh-snoc f [] m = omega arith
 weigh-snoc f (n ∷ l) m = omega (arith, weigh-snoc f l m)
 
--- an OPEN or a THROUGH grants nothing, is no TRAIN and no RETURN
+-- an OPEN or a THROUGH grants nothing, is no train, gives nothing up, and is no RETURN
 record Opener (m : Movement) : Type 0 where
   grants : grantedIn m ≡ 0
-  train : trainOne m ≡ 0
+  spends : spentIn m ≡ 0
   return : isReturn m ≡ false
 
 opener : (m : Movement) → Opens m → Opener m
-opener (Open a) is = record { grants = refl; train = refl; return = refl }
-opener Through is = record { grants = refl; train = refl; return = refl }
+opener (Open a) is = record { grants = refl; spends = refl; return = refl }
+opener Through is = record { grants = refl; spends = refl; return = refl }
 opener (Return a g) is = absurd (false≢true is)
 opener (Train a g) is = absurd (false≢true is)
+opener (LastTrain a g u) is = absurd (false≢true is)
+
+openers-spend : (l : List Movement) → Every Opens l → spent l ≡ 0
+openers-spend [] h = refl
+openers-spend (m ∷ l) h = omega (arith, opener m (h .0) .spends, openers-spend l (h .1))
 
 openers-last : (l : List Movement) → Every Opens l → lastReturn l ≡ false
 openers-last [] h = refl
 openers-last (m ∷ l) h = last-cons m l (opener m (h .0) .return) ∙ openers-last l (h .1)
 
--- no TRAIN and no RETURN
-openers-of : (l : List Movement) → InRow l → trains l ≡ 0 → lastReturn l ≡ false → Every Opens l
+-- no train and no RETURN
+openers-of : (l : List Movement) → InRow l → spent l ≡ 0 → lastReturn l ≡ false → Every Opens l
 openers-of [] h t r = tt
 openers-of (Open a ∷ l) h t r = (refl, openers-of l (h .1) (omega arith) (sym (last-cons (Open a) l refl) ∙ r))
 openers-of (Through ∷ l) h t r = (refl, openers-of l (h .1) (omega arith) (sym (last-cons Through l refl) ∙ r))
 openers-of (Return a g ∷ []) h t r = absurd (true≢false r)
 openers-of (Return a g ∷ m ∷ l) ((ahead, others), row) t r = absurd (true≢false (ahead .return))
 openers-of (Train a g ∷ l) h t r = absurd (omega arith)
+openers-of (LastTrain a g u ∷ l) h t r = absurd (omega arith)
 
 -- no OPEN, where the nearest is none
 abbrev NoOpen : Movement → Type 0
@@ -209,28 +238,36 @@ no-open-away (m ∷ l) t h e = h .0
 opener-ahead : (m : Movement) (l : List Movement) → Opens m → Every NoOpen l → granted l ≡ 0 → Every (Ahead m) l
 opener-ahead m [] op h e = tt
 opener-ahead m (n ∷ l) op h e = (
-  record { return = opener m op .return; no-open = h .0; grants = λ some. absurd (omega arith); fast = λ fast. absurd (clash op fast) },
+  record { return = opener m op .return; no-open = h .0; grants = λ some. absurd (omega arith); last = λ is. op; fast = λ fast. absurd (clash op fast) },
   opener-ahead m l op (h .1) (omega arith),
 )
 
--- a TRAIN is no OPEN and no opener
-record Hauled (m : Movement) : Type 0 where
-  no-open : isOpen m ≡ false
-  fast : isOpener m ≡ false
+-- a train is no OPEN, no opener and no RETURN
+pub record Hauled (m : Movement) : Type 0 where
+  pub no-open : isOpen m ≡ false
+  pub fast : isOpener m ≡ false
+  pub return : isReturn m ≡ false
 
-hauled : (m : Movement) → Trains m → Hauled m
+pub hauled : (m : Movement) → Trains m → Hauled m
 hauled (Open a) is = absurd (false≢true is)
 hauled Through is = absurd (false≢true is)
 hauled (Return a g) is = absurd (false≢true is)
-hauled (Train a g) is = record { no-open = refl; fast = refl }
+hauled (Train a g) is = record { no-open = refl; fast = refl; return = refl }
+hauled (LastTrain a g u) is = record { no-open = refl; fast = refl; return = refl }
 
--- ahead of a TRAIN may stand TRAINs; where one of them grants, it grants nothing
-trains-ahead : (a g : ℕ) (l : List Movement) → Every Trains l → (0 < granted l → g ≡ 0) → Every (Ahead (Train a g)) l
-trains-ahead a g [] h free = tt
-trains-ahead a g (m ∷ l) h free =
-    let k = hauled m (h .0) in (
-      record { return = refl; no-open = k .no-open; grants = λ some. record { train = refl; grants = free (omega arith) }; fast = λ fast. k .fast },
-      trains-ahead a g l (h .1) (λ some. free (omega arith)),
+-- ahead of a train may stand TRAINs that are not endorsed as the last; where one of them grants, it grants nothing
+trains-ahead : (m : Movement) (l : List Movement) → Trains m → Every Plain l → (0 < granted l → grantedIn m ≡ 0) → Every (Ahead m) l
+trains-ahead m [] is h free = tt
+trains-ahead m (n ∷ l) is h free =
+    let k = hauled n (h .0 .train) in (
+      record {
+        return = hauled m is .return;
+        no-open = k .no-open;
+        grants = λ some. record { train = is; grants = free (omega arith) };
+        last = λ last. absurd (clash last (h .0 .more));
+        fast = λ fast. k .fast;
+      },
+      trains-ahead m l is (h .1) (λ some. free (omega arith)),
     )
 
 -- the farthest, m, and those behind it
@@ -246,8 +283,8 @@ alone : (l : List Movement) (m : Movement) → InRow (l ++ m ∷ []) → (isOpen
 alone [] m h e = refl
 alone (n ∷ l) m h e = let (row, (first, others)) = row-snoc (n ∷ l) m h in absurd (e (first .no-open))
 
--- TRAINs, of which there are none
-trains-none : (l : List Movement) → Every Bare l → trains l ≡ 0 → l ≡ []
+-- trains, of which there are none
+trains-none : (l : List Movement) → Every Bare l → spent l ≡ 0 → l ≡ []
 trains-none [] h e = refl
 trains-none (m ∷ l) h e = let one = ap oneIf (h .0 .train) in absurd (omega arith)
 
@@ -265,7 +302,7 @@ or-else g o e = by (ltb 0 g) refl
 
 -- a half of a desk with no guest that holds nothing and where nothing waits: GUEST, HOLDS and WAIT say nothing of it
 pub quiet : {d o : Desk} {mine theirs : List Movement} → d .guest ≡ 0 → d .clears .holds ≡ 0 → d .waiting ≡ 0
-    → d .clears .owes ≡ o .clears .holds + o .waiting + trains theirs + granted mine → d .out ≡ (ltb 0 (o .guest) || awayAt mine theirs)
+    → d .clears .owes ≡ o .clears .holds + o .waiting + spent theirs + granted mine → d .out ≡ (ltb 0 (o .guest) || awayAt mine theirs)
     → InRow mine → Clear mine theirs → Half d o mine theirs
 quiet guest holds waiting sum outs row clear = record {
   sum = sum;
@@ -294,7 +331,7 @@ kept-opener d o t out m mine theirs h p op is-out =
       own = quiet (p .guest) (p .holds) own-waits (omega (arith, h .own .sum, k .grants))
           (is-out ∙ sym (ap (_|| isOpen m) no-guest))
           (ahead, h .own .row) (one-more (h .own .clear));
-      far = quiet (no-test (o .guest) no-guest) (omega (arith, h .own .sum, p .owes)) (omega (arith, h .own .sum, p .owes)) (omega (arith, h .far .sum, k .train))
+      far = quiet (no-test (o .guest) no-guest) (omega (arith, h .own .sum, p .owes)) (omega (arith, h .own .sum, p .owes)) (omega (arith, h .far .sum, k .spends))
           (h .far .outs ∙ ap (ltb 0 (d .guest) ||_) (far-away m theirs mine (k .return)))
           (h .far .row) (openers (theirs-open (h .far .clear) none-away));
     }
@@ -321,10 +358,21 @@ kept-return d o t a g mine theirs h p =
           (alone .far .outs ∙ rw (lt-ltb 0 (d .guest) (p .guest))) tt (openers tt);
     })
 
--- a TRAIN
-pub kept-train : (d o : Desk) (t a g : ℕ) (mine theirs : List Movement) → Halves d o mine theirs
-    → TrainPasses d g → Halves (trainDesk d t g) o (Train a g ∷ mine) theirs
-kept-train d o t a g mine theirs h p =
+-- what a TRAIN takes along of the line clears held: one, and all that are left where it is endorsed as the last
+pub record Spends (endorsed : Bool) (holds granted : ℕ) (m : Movement) : Type 0 where
+  pub train : Trains m
+  pub grants : grantedIn m ≡ granted
+  pub sum : clearsLeft endorsed holds + spentIn m ≡ holds
+  pub more : 0 < clearsLeft endorsed holds → isLast m ≡ false
+
+pub spends : (endorsed : Bool) (holds a g : ℕ) → 0 < holds → Spends endorsed holds g (trainMovement endorsed holds a g)
+spends false holds a g some = record { train = refl; grants = refl; sum = omega arith; more = λ left. refl }
+spends true holds a g some = record { train = refl; grants = refl; sum = omega arith; more = λ left. absurd (omega arith) }
+
+-- a TRAIN, which is m in the section
+pub kept-train : (d o : Desk) (endorsed : Bool) (t g : ℕ) (m : Movement) (mine theirs : List Movement) → Halves d o mine theirs
+    → TrainPasses d g → Spends endorsed (d .clears .holds) g m → Halves (trainDesk endorsed d t g) o (m ∷ mine) theirs
+kept-train d o endorsed t g m mine theirs h p k =
     let q = h .own .holding (p .holds) in
     let their-guest : o .guest ≡ 0 = zero-unless (o .guest) (λ some. omega (arith, h .far .guests some, h .far .sum, p .holds)) in
     let own-guest : d .guest ≡ 0 = zero-unless (d .guest) (λ some. omega (arith, h .own .guests some, p .holds)) in
@@ -332,29 +380,35 @@ kept-train d o t a g mine theirs h p =
     record {
       own = record {
         sum = now-owes (ltb 0 g) refl (h .own .sum);
-        outs = h .own .outs ∙ ap (ltb 0 (o .guest) ||_) (none-away mine (q .trains) (ap lastReturn (q .none-far)));
+        outs = h .own .outs ∙ ap (ltb 0 (o .guest) ||_) (none-away mine (q .trains) (ap lastReturn (q .none-far)) ∙ sym (hauled m (k .train) .no-open));
         guests = λ some. absurd (omega arith);
-        holding = λ some. record { far-holds = q .far-holds; waiting = q .waiting; none-far = q .none-far; trains = (refl, q .trains); asked = answered (ltb 0 g) (q .asked) };
+        holding = λ some. record {
+          far-holds = q .far-holds;
+          waiting = q .waiting;
+          none-far = q .none-far;
+          trains = (record { train = k .train; more = k .more some }, q .trains);
+          asked = answered (ltb 0 g) (q .asked);
+        };
         waits = λ some. absurd (omega (arith, q .waiting));
-        row = (trains-ahead a g mine (q .trains) (λ some. bare (omega (arith, h .own .sum))), h .own .row);
+        row = (trains-ahead m mine (k .train) (q .trains) (λ some. k .grants ∙ bare (omega (arith, h .own .sum))), h .own .row);
         clear = no-far (q .none-far);
       };
       far = record {
-        sum = omega (arith, h .far .sum, p .holds);
-        outs = h .far .outs ∙ ap (ltb 0 (d .guest) ||_) (far-away (Train a g) theirs mine refl);
+        sum = omega (arith, h .far .sum, k .sum);
+        outs = h .far .outs ∙ ap (ltb 0 (d .guest) ||_) (far-away m theirs mine (hauled m (k .train) .return));
         guests = λ some. absurd (omega arith);
         holding = λ some. absurd (omega (arith, q .far-holds));
         waits = λ some.
             let w = h .far .waits some in
-            record { owes = w .owes; holds = w .holds; none = w .none; bare = (record { train = refl; grants = bare (omega (arith, h .own .sum)) }, w .bare) };
+            record { owes = w .owes; holds = w .holds; none = w .none; bare = (record { train = k .train; grants = k .grants ∙ bare (omega (arith, h .own .sum)) }, w .bare) };
         row = h .far .row;
         clear = openers (rw (q .none-far) tt);
       };
     }
   where
-    none-away : (l : List Movement) → Every Trains l → lastReturn theirs ≡ false → awayAt l theirs ≡ false
+    none-away : (l : List Movement) → Every Plain l → lastReturn theirs ≡ false → awayAt l theirs ≡ false
     none-away [] all last = last
-    none-away (m ∷ l) all last = hauled m (all .0) .no-open
+    none-away (n ∷ l) all last = hauled n (all .0 .train) .no-open
 
     -- a grant answers the enquiry
     answered : (b : Bool) → (0 < d .clears .owes → d .clears .asked ≡ 0) → 0 < cond b g (d .clears .owes) → cond b 0 (d .clears .asked) ≡ 0
@@ -362,10 +416,10 @@ kept-train d o t a g mine theirs h p =
     answered false asked owes = asked owes
 
     -- and is owed beside nothing else
-    now-owes : (b : Bool) → ltb 0 g ≡ b → d .clears .owes ≡ o .clears .holds + o .waiting + trains theirs + granted mine
-        → cond b g (d .clears .owes) ≡ o .clears .holds + o .waiting + trains theirs + (g + granted mine)
-    now-owes true some sum = omega (arith, p .free (ltb-true 0 g some))
-    now-owes false none sum = omega (arith, ltb-false 0 g none)
+    now-owes : (b : Bool) → ltb 0 g ≡ b → d .clears .owes ≡ o .clears .holds + o .waiting + spent theirs + granted mine
+        → cond b g (d .clears .owes) ≡ o .clears .holds + o .waiting + spent theirs + (grantedIn m + granted mine)
+    now-owes true some sum = omega (arith, k .grants, p .free (ltb-true 0 g some))
+    now-owes false none sum = omega (arith, k .grants, ltb-false 0 g none)
 
 -- ---- receipts
 
@@ -392,10 +446,10 @@ kept-own d o t sent m mine theirs h op =
     let k = opener m op in
     let own-guest : d .guest ≡ 0 = zero-unless (d .guest) (λ some. cons-nil (h .own .guests some .none)) in
     let their-guest : o .guest ≡ 0 = zero-unless (o .guest) (λ some. cons-nil (h .far .guests some .none-far)) in
-    let own-holds : d .clears .holds ≡ 0 = zero-unless (d .clears .holds) (λ some. let one = ap oneIf (h .own .holding some .trains .0) in omega (arith, k .train)) in
+    let own-holds : d .clears .holds ≡ 0 = zero-unless (d .clears .holds) (λ some. let one = ap oneIf (h .own .holding some .trains .0 .train) in omega (arith, k .spends)) in
     let their-holds : o .clears .holds ≡ 0 = zero-unless (o .clears .holds) (λ some. cons-nil (h .far .holding some .none-far)) in
     let own-waits : d .waiting ≡ 0 = zero-unless (d .waiting) (λ some. cons-nil (h .own .waits some .none)) in
-    let their-waits : o .waiting ≡ 0 = zero-unless (o .waiting) (λ some. let one = ap oneIf (h .far .waits some .bare .0 .train) in omega (arith, k .train)) in
+    let their-waits : o .waiting ≡ 0 = zero-unless (o .waiting) (λ some. let one = ap oneIf (h .far .waits some .bare .0 .train) in omega (arith, k .spends)) in
     let still = released (grantedDesk (grantedIn m) (withOut (cond (isOpen m) false (d .out)) (received d t sent))) own-holds in
     let none-waits : ifAny (grantedIn m) (d .waiting) ≡ 0 = or-else (grantedIn m) (d .waiting) own-waits ∙ k .grants in
     let all-open = theirs-open (h .far .clear) in
@@ -405,7 +459,7 @@ kept-own d o t sent m mine theirs h op =
       own = quiet own-guest (omega (arith, still .sum)) (omega (arith, still .sum)) (omega (arith, h .own .sum, k .grants))
           (in-now (isOpen m) refl their-guest ∙ sym (ap₂ _||_ (zero-test (o .guest) their-guest) none-away))
           (h .own .row .1) (one-less (h .own .clear));
-      far = quiet their-guest their-holds their-waits (omega (arith, h .far .sum, k .train, still .sum))
+      far = quiet their-guest their-holds their-waits (omega (arith, h .far .sum, k .spends, still .sum))
           (h .far .outs ∙ ap (ltb 0 (d .guest) ||_) (sym (far-away m theirs mine (k .return))))
           (h .far .row) (openers all-open);
     }
@@ -436,8 +490,8 @@ module _ (d o : Desk) (m : Movement) (l : List Movement) (h : Halves d o [] (l +
   their-waits : o .waiting ≡ 0
   their-waits = zero-unless (o .waiting) (λ some. snoc-nil l m (h .far .waits some .none))
 
-  pub own-sum : d .clears .owes ≡ o .clears .holds + (trains l + trainOne m)
-  own-sum = omega (arith, h .own .sum, weigh-snoc trainOne l m, their-waits)
+  pub own-sum : d .clears .owes ≡ o .clears .holds + (spent l + spentIn m)
+  own-sum = omega (arith, h .own .sum, weigh-snoc spentIn l m, their-waits)
 
   pub far-sum : o .clears .owes ≡ d .waiting + (granted l + grantedIn m)
   far-sum = omega (arith, h .far .sum, weigh-snoc grantedIn l m, far-holds)
@@ -445,7 +499,14 @@ module _ (d o : Desk) (m : Movement) (l : List Movement) (h : Halves d o [] (l +
   far-row : InRow l × Every (λ n. Ahead n m) l
   far-row = row-snoc l m (h .far .row)
 
-  -- where line clears wait, the one that comes is a TRAIN that grants nothing
+  -- one that is endorsed as the last is all that is owed, with what it gives up: its sender holds none, and behind it no train stands
+  pub closed : isLast m ≡ true → d .clears .owes ≡ spentIn m
+  closed last =
+      let none-held : o .clears .holds ≡ 0 = zero-unless (o .clears .holds) (λ some. clash last (every-before Plain l m (h .far .holding some .trains) .1 .more)) in
+      let behind = every-map (λ n. Ahead n m) Opens (λ n k. k .last last) l (far-row .1) in
+      omega (arith, own-sum, none-held, openers-spend l behind)
+
+  -- where line clears wait, the one that comes is a train that grants nothing
   waits-bare : 0 < d .waiting → Every Bare l × Bare m
   waits-bare some = every-before Bare l m (h .own .waits some .bare)
 
@@ -459,7 +520,7 @@ module _ (d o : Desk) (m : Movement) (l : List Movement) (h : Halves d o [] (l +
           omega arith
       by false none = omega (arith, ltb-false 0 (grantedIn m) none)
 
-  -- and where any do, only TRAINs that grant nothing are behind it
+  -- and where any do, only trains that grant nothing are behind it
   bare-behind : 0 < d .waiting + grantedIn m → Every Bare l
   bare-behind some = by (ltb 0 (grantedIn m)) refl
     where
@@ -473,9 +534,9 @@ pub kept-guest : (d o : Desk) (t class a : ℕ) (l : List Movement) → Halves d
 kept-guest d o t class a l h guest =
     let m = Open a in
     let nil : l ≡ [] = alone l m (h .far .row) true≢false in
-    let none : trains l ≡ 0 = ap trains nil in
+    let none : spent l ≡ 0 = ap spent nil in
     let sum = own-sum d o m l h in
-    let their-holds : o .clears .holds ≡ 0 = zero-unless (o .clears .holds) (λ some. false≢true (every-before Trains l m (h .far .holding some .trains) .1)) in
+    let their-holds : o .clears .holds ≡ 0 = zero-unless (o .clears .holds) (λ some. false≢true (every-before Plain l m (h .far .holding some .trains) .1 .train)) in
     let none-waits : d .waiting ≡ 0 = zero-unless (d .waiting) (λ some. false≢true (waits-bare d o m l h some .1 .train)) in
     let still = released (grantedDesk 0 (otherDesk d t class m)) (far-holds d o m l h) in
     record {
@@ -496,14 +557,15 @@ kept-guest d o t class a l h guest =
 -- the line clears that the other's vehicle leaves, before its reply is read
 pub record Brings (d : Desk) (m : Movement) (e : Desk) : Type 0 where
   pub holds : e .clears .holds ≡ d .clears .holds
-  pub owes : e .clears .owes ≡ d .clears .owes - trainOne m
+  pub owes : e .clears .owes ≡ d .clears .owes - spentIn m
   pub waiting : e .waiting ≡ d .waiting
 
-pub brings : (d : Desk) (t class : ℕ) (m : Movement) → Brings d m (otherDesk d t class m)
-brings d t class (Open a) = record { holds = refl; owes = omega arith; waiting = refl }
-brings d t class Through = record { holds = refl; owes = omega arith; waiting = refl }
-brings d t class (Return a g) = record { holds = refl; owes = omega arith; waiting = refl }
-brings d t class (Train a g) = record { holds = refl; owes = refl; waiting = refl }
+pub brings : (d : Desk) (t class : ℕ) (m : Movement) → (isLast m ≡ true → d .clears .owes ≡ spentIn m) → Brings d m (otherDesk d t class m)
+brings d t class (Open a) all = record { holds = refl; owes = omega arith; waiting = refl }
+brings d t class Through all = record { holds = refl; owes = omega arith; waiting = refl }
+brings d t class (Return a g) all = record { holds = refl; owes = omega arith; waiting = refl }
+brings d t class (Train a g) all = record { holds = refl; owes = refl; waiting = refl }
+brings d t class (LastTrain a g u) all = record { holds = refl; owes = omega (arith, all refl); waiting = refl }
 
 -- any but an OPEN goes on, or comes with a grant: out and guest of the desk e that it leaves
 record Comes (d : Desk) (m : Movement) (e : Desk) : Type 0 where
@@ -515,13 +577,14 @@ comes d t class (Open a) n = absurd (true≢false n)
 comes d t class Through n = record { out = refl; guest = refl }
 comes d t class (Return a g) n = record { out = refl; guest = refl }
 comes d t class (Train a g) n = record { out = refl; guest = refl }
+comes d t class (LastTrain a g u) n = record { out = refl; guest = refl }
 
 pub kept-far : (d o : Desk) (t class : ℕ) (m : Movement) (l : List Movement) → Halves d o [] (l ++ m ∷ []) → isOpen m ≡ false
     → Halves (replied (grantedIn m) (otherDesk d t class m)) o [] l
 kept-far d o t class m l h n =
     let e = otherDesk d t class m in
     let k = comes d t class m n in
-    let b = brings d t class m in
+    let b = brings d t class m (closed d o m l h) in
     let last = row-last l m (far-row d o m l h .1) in
     let own = own-sum d o m l h in
     let far = far-sum d o m l h in
@@ -550,7 +613,7 @@ kept-far d o t class m l h n =
         holding = λ some.
             let q = h .far .holding some in
             let none : replied (grantedIn m) e .clears .holds ≡ 0 = zero-unless _ (λ held. omega (arith, after .holding held)) in
-            record { far-holds = none; waiting = q .waiting; none-far = refl; trains = every-before Trains l m (q .trains) .0; asked = q .asked };
+            record { far-holds = none; waiting = q .waiting; none-far = refl; trains = every-before Plain l m (q .trains) .0; asked = q .asked };
         waits = λ some. absurd (omega (arith, their-waits d o m l h));
         row = far-row d o m l h .0;
         clear = no-far refl;

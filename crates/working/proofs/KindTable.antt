@@ -1,4 +1,4 @@
--- What each kind is refused for, in rising order, and what it does to every figure of the section, the sentences of document 01 and of T-02 row by row for either station.
+-- What each kind is refused for, in rising order, and what it does to every figure of the section, the sentences of document 01, T-02 and T-03 row by row for either station.
 -- The sections are written out: the desk that decides has a figure at each place that the kind must keep, and the other desk is full of figures that no entry of this
 -- station may alter. A row has the section found, the bytes, the answer, and the section left, compared in every figure. Every section found is well made, or the answer
 -- would be 5.
@@ -7,15 +7,15 @@ use Prim.Native.Nat.{_+_, ℕ}
 use Rattle.working.proofs.Computing.{step-computes}
 use Rattle.working.proofs.Edges.{Edge, answersBy, answersTo, expectedOf, leavingAnotherBy, refused, row, rowsLeavingAnother}
 use Rattle.working.proofs.Literals.{begin, counts, figures, meet, opensAs, plain, receive, resume, vehicle, withClock, withOwes, working}
-use Rattle.working.specs.Document01.{stepOf01}
+use Rattle.working.specs.Document01.{decode01, stepOf01}
 use Rattle.working.specs.Sections.{fresh, freshDesk, numberAt, otherAt, padTo, withWaiting}
 use Rattle.working.specs.declared.Answer.the-variants.{Accepted}
 use Rattle.working.specs.declared.Desk.{Desk}
 use Rattle.working.specs.declared.Interval.the-variants.{Since, Stopped}
-use Rattle.working.specs.declared.Movement.the-variants.{Open, Return, Through, Train}
+use Rattle.working.specs.declared.Movement.the-variants.{LastTrain, Open, Return, Through, Train}
 use Rattle.working.specs.declared.Movement.{Movement}
 use Rattle.working.specs.declared.Refusal.the-variants.{AlreadyInForce, BeforeClock, FormsUsed, GrantNotAllowed, GuestHere, HoldsLineClear, IntervalRunning, MayNotEnter}
-use Rattle.working.specs.declared.Refusal.the-variants.{MayNotMeet, NoGuest, NoLineClear, NotInForce, NotNearest, OpenerAway, OwesLineClear, TwelveSent, VehiclePresent}
+use Rattle.working.specs.declared.Refusal.the-variants.{EndsInside, MayNotMeet, NoGuest, NoLineClear, NotInForce, NotNearest, OpenerAway, OwesLineClear, TwelveSent, UnknownKind, VehiclePresent}
 use Rattle.working.specs.declared.Section.{Section}
 use Rattle.working.specs.declared.Speed.the-variants.{Booked, Kmh, Walking}
 use Rattle.working.specs.declared.Speed.{Speed}
@@ -62,11 +62,12 @@ returning x = 0x07 ∷ 4 ∷ numberAt x ∷ 0 ∷ 100 ∷ []
 abbrev returningWith : Station → ℕ → ℕ → List ℕ
 returningWith x asked granted = 0x67 ∷ 4 ∷ numberAt x ∷ 0 ∷ 100 ∷ asked ∷ granted ∷ []
 
-abbrev running : Station → ℕ → List ℕ
-running x view = 0x0F ∷ 5 ∷ numberAt x ∷ 0 ∷ 100 ∷ view ∷ []
+-- a TRAIN, kind 5, or one endorsed as the last, kind 9
+abbrev running : ℕ → Station → ℕ → List ℕ
+running kind x view = 0x0F ∷ kind ∷ numberAt x ∷ 0 ∷ 100 ∷ view ∷ []
 
-abbrev runningWith : Station → ℕ → ℕ → List ℕ
-runningWith x asked granted = 0x6F ∷ 5 ∷ numberAt x ∷ 0 ∷ 100 ∷ 1 ∷ asked ∷ granted ∷ []
+abbrev runningWith : ℕ → Station → ℕ → ℕ → List ℕ
+runningWith kind x asked granted = 0x6F ∷ kind ∷ numberAt x ∷ 0 ∷ 100 ∷ 1 ∷ asked ∷ granted ∷ []
 
 -- ---- refusals, in rising order: a desk with every reason against the kind loses them one by one
 
@@ -97,18 +98,18 @@ returnRefused x =
     ∷ refused (Of x) (seenFrom x [] (figures 100 9998 11 (Since 71) true 1 3 0 8)) (returningWith x 1 3) IntervalRunning
     ∷ []
 
--- TRAIN: 9, 15, 16 for a grant above asked, 16 for a grant while owes is above 0, 17, 18, 19; out set, a guest, and a grant that leaves holds above 0 are no reason
-abbrev trainRefused : Station → List Edge
-trainRefused x =
-    refused (Of x) fresh (runningWith x 1 3) NotInForce
-    ∷ refused (Of x) (seenFrom x [] (figures 101 9999 12 (Since 101) true 1 2 0 8)) (runningWith x 1 3) BeforeClock
-    ∷ refused (Of x) (seenFrom x [] (figures 100 9999 12 (Since 71) true 1 2 0 8)) (runningWith x 1 3) NoLineClear
-    ∷ refused (Of x) (seenFrom x [] (figures 100 9999 12 (Since 71) true 1 2 1 0)) (runningWith x 1 3) GrantNotAllowed
-    ∷ refused (Of x) (seenFrom x [] (figures 100 9999 12 (Since 71) true 1 3 1 1)) (runningWith x 1 3) GrantNotAllowed
-    ∷ refused (Of x) (seenFrom x [] (figures 100 9999 12 (Since 71) true 1 3 2 1)) (runningWith x 1 3) GrantNotAllowed
-    ∷ refused (Of x) (seenFrom x [] (figures 100 9999 12 (Since 71) true 1 3 2 0)) (runningWith x 1 3) TwelveSent
-    ∷ refused (Of x) (seenFrom x [] (figures 100 9999 11 (Since 71) true 1 3 2 0)) (runningWith x 1 3) FormsUsed
-    ∷ refused (Of x) (seenFrom x [] (figures 100 9998 11 (Since 71) true 1 3 2 0)) (runningWith x 1 3) IntervalRunning
+-- TRAIN, endorsed as the last or not (kind 5 or 9): 9, 15, 16 for a grant above asked, 16 for a grant while owes is above 0, 17, 18, 19; out set, a guest, and a grant that leaves holds above 0 are no reason
+abbrev trainRefused : ℕ → Station → List Edge
+trainRefused kind x =
+    refused (Of x) fresh (runningWith kind x 1 3) NotInForce
+    ∷ refused (Of x) (seenFrom x [] (figures 101 9999 12 (Since 101) true 1 2 0 8)) (runningWith kind x 1 3) BeforeClock
+    ∷ refused (Of x) (seenFrom x [] (figures 100 9999 12 (Since 71) true 1 2 0 8)) (runningWith kind x 1 3) NoLineClear
+    ∷ refused (Of x) (seenFrom x [] (figures 100 9999 12 (Since 71) true 1 2 1 0)) (runningWith kind x 1 3) GrantNotAllowed
+    ∷ refused (Of x) (seenFrom x [] (figures 100 9999 12 (Since 71) true 1 3 1 1)) (runningWith kind x 1 3) GrantNotAllowed
+    ∷ refused (Of x) (seenFrom x [] (figures 100 9999 12 (Since 71) true 1 3 2 1)) (runningWith kind x 1 3) GrantNotAllowed
+    ∷ refused (Of x) (seenFrom x [] (figures 100 9999 12 (Since 71) true 1 3 2 0)) (runningWith kind x 1 3) TwelveSent
+    ∷ refused (Of x) (seenFrom x [] (figures 100 9999 11 (Since 71) true 1 3 2 0)) (runningWith kind x 1 3) FormsUsed
+    ∷ refused (Of x) (seenFrom x [] (figures 100 9998 11 (Since 71) true 1 3 2 0)) (runningWith kind x 1 3) IntervalRunning
     ∷ []
 
 -- a desk that may receive, where line clears wait while it owes; one that owes a single train, and one that owes none
@@ -131,6 +132,7 @@ receiveRefused x =
     ∷ refused (Of x) (seenFrom x (own x (Train 0 0) 6 0 ∷ []) mine) (receive (numberAt x) 100 (numberAt x) 7) NotNearest
     ∷ refused (Of x) (seenFrom x (own x Through 3 1 ∷ coming x Through 1 ∷ []) mine) (receive (numberAt x) 100 (numberAt (otherAt x)) 3) NotNearest
     ∷ refused (Of x) (seenFrom x (own x (Train 0 0) 7 0 ∷ []) mine) (receive (numberAt x) 100 (numberAt x) 7) MayNotEnter
+    ∷ refused (Of x) (seenFrom x (own x (LastTrain 0 0 3) 7 0 ∷ []) mine) (receive (numberAt x) 100 (numberAt x) 7) MayNotEnter
     ∷ refused (Of x) (seenFrom x (own x (Return 0 0) 7 1 ∷ []) mine) (receive (numberAt x) 100 (numberAt x) 7) MayNotEnter
     ∷ refused (Of x) (seenFrom x (vehicle Through (numberAt x) 7 (numberAt (otherAt x)) true 1 ∷ []) mine) (receive (numberAt x) 100 (numberAt x) 7) MayNotEnter
     ∷ refused (Of x) (seenFrom x (vehicle Through (numberAt (otherAt x)) 3 (numberAt (otherAt x)) true 1 ∷ []) mine)
@@ -165,14 +167,22 @@ departures x =
     ∷ leaves x (figures 90 7 2 (Since 70) true 4 6 0 7) (returning x) (way x + 160) Booked (Return 0 0) 4 (figures 100 8 3 (Since 100) true 0 0 0 7)
     ∷ leaves x (figures 90 7 2 Stopped true 5 6 0 7) (returningWith x 5 1) (way x + 166) Booked (Return 5 1) 5 (figures 100 8 3 (Since 100) true 0 0 0 1)
     -- TRAIN: booked if sent was 0, else 25 in view 1 and 10 otherwise; without a grant asked and owes stay
-    ∷ leaves x (figures 90 7 0 (Since 70) true 3 6 3 7) (running x 1) (way x + 160) Booked (Train 0 0) 0 (figures 100 8 1 (Since 100) true 3 6 2 7)
-    ∷ leaves x (figures 90 7 0 Stopped true 3 6 3 7) (running x 3) (way x + 160) Booked (Train 0 0) 0 (figures 100 8 1 (Since 100) true 3 6 2 7)
-    ∷ leaves x (figures 90 7 2 Stopped true 3 6 3 7) (running x 1) (way x + 96) (Kmh 25) (Train 0 0) 0 (figures 100 8 3 (Since 100) true 3 6 2 7)
-    ∷ leaves x (figures 90 7 2 Stopped true 3 6 3 7) (running x 2) (way x + 96) (Kmh 10) (Train 0 0) 0 (figures 100 8 3 (Since 100) true 3 6 2 7)
-    ∷ leaves x (figures 90 7 2 Stopped true 3 6 3 7) (running x 3) (way x + 96) (Kmh 10) (Train 0 0) 0 (figures 100 8 3 (Since 100) true 3 6 2 7)
+    ∷ leaves x (figures 90 7 0 (Since 70) true 3 6 3 7) (running 5 x 1) (way x + 160) Booked (Train 0 0) 0 (figures 100 8 1 (Since 100) true 3 6 2 7)
+    ∷ leaves x (figures 90 7 0 Stopped true 3 6 3 7) (running 5 x 3) (way x + 160) Booked (Train 0 0) 0 (figures 100 8 1 (Since 100) true 3 6 2 7)
+    ∷ leaves x (figures 90 7 2 Stopped true 3 6 3 7) (running 5 x 1) (way x + 96) (Kmh 25) (Train 0 0) 0 (figures 100 8 3 (Since 100) true 3 6 2 7)
+    ∷ leaves x (figures 90 7 2 Stopped true 3 6 3 7) (running 5 x 2) (way x + 96) (Kmh 10) (Train 0 0) 0 (figures 100 8 3 (Since 100) true 3 6 2 7)
+    ∷ leaves x (figures 90 7 2 Stopped true 3 6 3 7) (running 5 x 3) (way x + 96) (Kmh 10) (Train 0 0) 0 (figures 100 8 3 (Since 100) true 3 6 2 7)
     -- a grant becomes owes, and clears asked, whatever is left of it, also on a TRAIN that leaves holds above 0
-    ∷ leaves x (figures 90 7 2 Stopped true 3 6 1 0) (runningWith x 2 1) (way x + 102) (Kmh 25) (Train 2 1) 0 (figures 100 8 3 (Since 100) true 3 0 0 1)
-    ∷ leaves x (figures 90 7 2 Stopped true 3 6 2 0) (runningWith x 2 1) (way x + 102) (Kmh 25) (Train 2 1) 0 (figures 100 8 3 (Since 100) true 3 0 1 1)
+    ∷ leaves x (figures 90 7 2 Stopped true 3 6 1 0) (runningWith 5 x 2 1) (way x + 102) (Kmh 25) (Train 2 1) 0 (figures 100 8 3 (Since 100) true 3 0 0 1)
+    ∷ leaves x (figures 90 7 2 Stopped true 3 6 2 0) (runningWith 5 x 2 1) (way x + 102) (Kmh 25) (Train 2 1) 0 (figures 100 8 3 (Since 100) true 3 0 1 1)
+    -- T-03, endorsed as the last: "the sender's holds becomes 0", and its vehicle "carries the holds before it, less 1"; all else as TRAIN
+    ∷ leaves x (figures 90 7 0 (Since 70) true 3 6 3 7) (running 9 x 1) (way x + 160) Booked (LastTrain 0 0 2) 0 (figures 100 8 1 (Since 100) true 3 6 0 7)
+    ∷ leaves x (figures 90 7 0 Stopped true 3 6 1 7) (running 9 x 3) (way x + 160) Booked (LastTrain 0 0 0) 0 (figures 100 8 1 (Since 100) true 3 6 0 7)
+    ∷ leaves x (figures 90 7 2 Stopped true 3 6 8 7) (running 9 x 1) (way x + 96) (Kmh 25) (LastTrain 0 0 7) 0 (figures 100 8 3 (Since 100) true 3 6 0 7)
+    ∷ leaves x (figures 90 7 2 Stopped true 3 6 2 7) (running 9 x 2) (way x + 96) (Kmh 10) (LastTrain 0 0 1) 0 (figures 100 8 3 (Since 100) true 3 6 0 7)
+    ∷ leaves x (figures 90 7 2 Stopped true 3 6 2 7) (running 9 x 3) (way x + 96) (Kmh 10) (LastTrain 0 0 1) 0 (figures 100 8 3 (Since 100) true 3 6 0 7)
+    ∷ leaves x (figures 90 7 2 Stopped true 3 6 1 0) (runningWith 9 x 2 1) (way x + 102) (Kmh 25) (LastTrain 2 1 0) 0 (figures 100 8 3 (Since 100) true 3 0 0 1)
+    ∷ leaves x (figures 90 7 2 Stopped true 3 6 4 0) (runningWith 9 x 2 1) (way x + 102) (Kmh 25) (LastTrain 2 1 3) 0 (figures 100 8 3 (Since 100) true 3 0 0 1)
     ∷ []
 
 -- a receipt at S of its own vehicle, number 7, nearest it, with another behind; and of O's, number 3
@@ -201,6 +211,10 @@ receipts x =
     ∷ comes x mine (coming x (Train 0 0) 0) (withWaiting 4 (figures 100 7 0 Stopped true 3 6 2 6))
     ∷ comes x mine (coming x (Train 1 5) 0) (withWaiting 5 (figures 100 7 0 Stopped true 3 1 2 6))
     ∷ comes x (withWaiting 0 owingNone) (coming x (Train 0 0) 0) (figures 100 7 0 Stopped true 3 6 2 0)
+    -- T-03, endorsed as the last: "the receiver's owes becomes 0", whatever it was and whatever is given up; asked as at a TRAIN
+    ∷ comes x (withWaiting 0 mine) (coming x (LastTrain 0 0 0) 0) (figures 100 7 0 Stopped true 3 6 2 0)
+    ∷ comes x (withWaiting 0 mine) (coming x (LastTrain 1 0 3) 0) (figures 100 7 0 Stopped true 3 1 2 0)
+    ∷ comes x (withWaiting 0 owingNone) (coming x (LastTrain 0 0 7) 0) (figures 100 7 0 Stopped true 3 6 2 0)
     ∷ []
 
 -- T-02: "where its own owes is 0 after it, holds is set to those waiting, if any, and none is left waiting", at every receipt
@@ -216,7 +230,12 @@ releases x =
     ∷ comes x owingOne (coming x (Train 0 0) 0) (figures 100 7 0 Stopped true 3 6 4 0)
     ∷ comes x owingOne (coming x (Train 1 5) 0) (figures 100 7 0 Stopped true 3 1 5 0)
     ∷ comes x owingNone (coming x (Train 0 0) 0) (figures 100 7 0 Stopped true 3 6 4 0)
-    -- and a RETURN does not
+    -- one endorsed as the last leaves none owed
+    ∷ comes x mine (coming x (LastTrain 0 0 3) 0) (figures 100 7 0 Stopped true 3 6 4 0)
+    ∷ comes x mine (coming x (LastTrain 1 5 3) 0) (figures 100 7 0 Stopped true 3 1 5 0)
+    ∷ comes x (withWaiting 0 mine) (coming x (LastTrain 0 1 0) 0) (figures 100 7 0 Stopped true 3 6 1 0)
+    ∷ comes x owingNone (coming x (LastTrain 0 0 0) 0) (figures 100 7 0 Stopped true 3 6 4 0)
+    -- and a RETURN does not lower it
     ∷ comes x owingOne (coming x (Return 0 0) 1) (withWaiting 4 (figures 100 7 0 Stopped false 3 6 2 1))
     -- "if any": holds stays where nothing waits
     ∷ back x (withWaiting 0 owingNone) (own x Through 7 1) (figures 100 7 2 Stopped true 3 6 2 0)
@@ -254,6 +273,8 @@ declared =
     ∷ refused NoStation (meeting (present Through 2 false Through 2 true)) (meet 1 1 1) MayNotMeet
     ∷ refused NoStation (meeting (vehicle (Train 0 0) 1 1 2 false 0 ∷ vehicle Through 2 1 1 false 1 ∷ [])) (meet 1 1 1) MayNotMeet
     ∷ refused NoStation (meeting (vehicle Through 1 1 2 false 1 ∷ vehicle (Train 0 0) 2 1 1 false 0 ∷ [])) (meet 1 1 1) MayNotMeet
+    ∷ refused NoStation (meeting (vehicle (LastTrain 0 0 3) 1 1 2 false 0 ∷ vehicle Through 2 1 1 false 1 ∷ [])) (meet 1 1 1) MayNotMeet
+    ∷ refused NoStation (meeting (vehicle Through 1 1 2 false 1 ∷ vehicle (LastTrain 0 0 3) 2 1 1 false 0 ∷ [])) (meet 1 1 1) MayNotMeet
     -- both then head to the station given and are met; no clock moves, and the third stays as it is
     ∷ row (meeting (present (Open 8) 2 false Through 1 false)) (meet 1 1 1) plain (meeting (present (Open 8) 1 true Through 1 true))
     ∷ row (meeting (present Through 2 true (Open 8) 1 true)) (meet 2 1 1) plain (meeting (present Through 2 true (Open 8) 2 true))
@@ -266,7 +287,7 @@ declared =
 
 abbrev rowsFor : Station → List Edge
 rowsFor x =
-    openRefused x (opening x 1 1 1) ++ openRefused x (passing x 1) ++ returnRefused x ++ trainRefused x ++ receiveRefused x ++ departures x ++ receipts x ++ releases x
+    openRefused x (opening x 1 1 1) ++ openRefused x (passing x 1) ++ returnRefused x ++ trainRefused 5 x ++ trainRefused 9 x ++ receiveRefused x ++ departures x ++ receipts x ++ releases x
 
 abbrev kinds : List Edge
 kinds = declared ++ rowsFor A ++ rowsFor B
@@ -291,11 +312,27 @@ before02 x =
     ∷ comes x (withWaiting 0 mine) (coming x (Open 8) 4) (figures 100 7 0 Stopped true 4 8 2 7)
     ∷ comes x (withWaiting 0 mine) (coming x Through 1) (figures 100 7 0 Stopped true 3 6 2 7)
     ∷ back x (withWaiting 0 mine) (own x Through 7 1) (figures 100 7 2 Stopped true 3 6 2 7)
-    ∷ refused (Of x) (seenFrom x [] (figures 100 9999 12 (Since 71) true 1 2 1 8)) (runningWith x 1 3) GrantNotAllowed
-    ∷ refused (Of x) (seenFrom x [] (figures 100 9999 12 (Since 71) true 1 3 2 0)) (runningWith x 1 3) GrantNotAllowed
-    ∷ refused (Of x) (seenFrom x [] (figures 100 9999 12 (Since 71) true 1 3 1 8)) (runningWith x 1 3) TwelveSent
+    ∷ refused (Of x) (seenFrom x [] (figures 100 9999 12 (Since 71) true 1 2 1 8)) (runningWith 5 x 1 3) GrantNotAllowed
+    ∷ refused (Of x) (seenFrom x [] (figures 100 9999 12 (Since 71) true 1 3 2 0)) (runningWith 5 x 1 3) GrantNotAllowed
+    ∷ refused (Of x) (seenFrom x [] (figures 100 9999 12 (Since 71) true 1 3 1 8)) (runningWith 5 x 1 3) TwelveSent
     ∷ []
 
 pub before-t02 : (answersBy stepOf01 (before02 A ++ before02 B) ≡ expectedOf (before02 A ++ before02 B)) × (leavingAnotherBy stepOf01 1 (before02 A ++ before02 B) ≡ [])
-unfolding step-computes stepOf01
+unfolding decode01 step-computes stepOf01
 before-t02 = (refl, refl)
+
+-- ---- and where T-03 altered it: kind 9 "was refusal 2", also not in force, with a map that is not its own, and with a field out of its range; cut it is 1
+
+abbrev before03 : Station → List Edge
+before03 x =
+    refused NoStation (seenFrom x [] (figures 90 7 0 Stopped true 3 6 3 0)) (running 9 x 1) UnknownKind
+    ∷ refused NoStation (seenFrom x [] (figures 90 7 0 Stopped true 3 6 3 0)) (runningWith 9 x 2 1) UnknownKind
+    ∷ refused NoStation fresh (running 9 x 1) UnknownKind
+    ∷ refused NoStation fresh (0x01 ∷ 9 ∷ []) UnknownKind
+    ∷ refused NoStation fresh (running 9 x 4) UnknownKind
+    ∷ refused NoStation fresh (0x0F ∷ 9 ∷ numberAt x ∷ []) EndsInside
+    ∷ []
+
+pub before-t03 : (answersBy stepOf01 (before03 A ++ before03 B) ≡ expectedOf (before03 A ++ before03 B)) × (leavingAnotherBy stepOf01 1 (before03 A ++ before03 B) ≡ [])
+unfolding decode01 step-computes stepOf01
+before-t03 = (refl, refl)

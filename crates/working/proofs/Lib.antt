@@ -14,6 +14,7 @@ pub mod Examples
 pub mod Fields
 pub mod FirstEntry
 pub mod Found
+pub mod GivenUp
 pub mod Invariant
 pub mod Judged
 pub mod Kept

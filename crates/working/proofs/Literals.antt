@@ -9,7 +9,7 @@ use Rattle.working.specs.declared.Answer.{Answer}
 use Rattle.working.specs.declared.Counts.{Counts}
 use Rattle.working.specs.declared.Desk.{Desk}
 use Rattle.working.specs.declared.Interval.{Interval}
-use Rattle.working.specs.declared.Movement.the-variants.{Open, Return, Through, Train}
+use Rattle.working.specs.declared.Movement.the-variants.{LastTrain, Open, Return, Through, Train}
 use Rattle.working.specs.declared.Movement.{Movement}
 use Rattle.working.specs.declared.Section.{Section}
 use Rattle.working.specs.declared.Speed.the-variants.{NoSpeed}
@@ -49,6 +49,9 @@ train station minute = 0x0F ∷ 5 ∷ station ∷ 0 ∷ minute ∷ 1 ∷ []
 
 abbrev pub trainGranting : ℕ → ℕ → ℕ → List ℕ
 trainGranting station minute granted = 0x4F ∷ 5 ∷ station ∷ 0 ∷ minute ∷ 1 ∷ granted ∷ []
+
+abbrev pub lastTrain : ℕ → ℕ → List ℕ
+lastTrain station minute = 0x0F ∷ 9 ∷ station ∷ 0 ∷ minute ∷ 1 ∷ []
 
 abbrev pub receive : ℕ → ℕ → ℕ → ℕ → List ℕ
 receive station minute sender number = 0x87 ∷ 6 ∷ station ∷ 0 ∷ minute ∷ sender ∷ 0 ∷ number ∷ []
@@ -100,12 +103,13 @@ abbrev bit : Bool → ℕ
 bit false = 0
 bit true = 1
 
--- the kind's number in document 01, asked and granted
+-- the kind's number, asked, granted and given up
 abbrev movementFigures : Movement → List ℕ
-movementFigures (Open asked) = 2 ∷ asked ∷ 0 ∷ []
-movementFigures Through = 3 ∷ 0 ∷ 0 ∷ []
-movementFigures (Return asked granted) = 4 ∷ asked ∷ granted ∷ []
-movementFigures (Train asked granted) = 5 ∷ asked ∷ granted ∷ []
+movementFigures (Open asked) = 2 ∷ asked ∷ 0 ∷ 0 ∷ []
+movementFigures Through = 3 ∷ 0 ∷ 0 ∷ 0 ∷ []
+movementFigures (Return asked granted) = 4 ∷ asked ∷ granted ∷ 0 ∷ []
+movementFigures (Train asked granted) = 5 ∷ asked ∷ granted ∷ 0 ∷ []
+movementFigures (LastTrain asked granted givenUp) = 9 ∷ asked ∷ granted ∷ givenUp ∷ []
 
 abbrev vehicleFigures : List Vehicle → List ℕ
 vehicleFigures [] = []

@@ -13,7 +13,7 @@ use Rattle.working.specs.declared.Answer.the-variants.{Accepted, Refused
 use Rattle.working.specs.declared.Answer.{Answer}
 use Rattle.working.specs.declared.Desk.{Desk}
 use Rattle.working.specs.declared.Interval.the-variants.{Since, Stopped}
-use Rattle.working.specs.declared.Movement.the-variants.{Open, Return, Through, Train}
+use Rattle.working.specs.declared.Movement.the-variants.{LastTrain, Open, Return, Through, Train}
 use Rattle.working.specs.declared.Movement.{Movement}
 use Rattle.working.specs.declared.Section.{Section}
 use Rattle.working.specs.declared.Station.the-variants.{A, B}
@@ -98,11 +98,13 @@ illAt x =
     -- "unmet vehicles head away from their sender"; a heading is a station
     ∷ withOne x (vehicle Through (numberAt x) 5 (numberAt x) false 1)
     ∷ withOne x (vehicle (Train 0 0) (numberAt x) 5 (numberAt x) false 0)
+    ∷ withOne x (vehicle (LastTrain 0 0 0) (numberAt x) 5 (numberAt x) false 0)
     ∷ withOne x (vehicle Through (numberAt x) 5 0 false 1)
     ∷ withOne x (vehicle Through (numberAt x) 5 3 false 1)
-    -- "RETURN and TRAIN are unmet"
+    -- "RETURN and TRAIN are unmet", T-03's kind 9 as well
     ∷ withOne x (vehicle (Return 0 0) (numberAt x) 5 (numberAt (otherAt x)) true 1)
     ∷ withOne x (vehicle (Train 0 0) (numberAt x) 5 (numberAt (otherAt x)) true 0)
+    ∷ withOne x (vehicle (LastTrain 0 0 0) (numberAt x) 5 (numberAt (otherAt x)) true 0)
     -- "class is 1 to 5 on OPEN and RETURN, 1 on THROUGH, 0 on TRAIN"
     ∷ withOne x (away x (Open 1) 0)
     ∷ withOne x (away x (Open 1) 6)
@@ -111,6 +113,7 @@ illAt x =
     ∷ withOne x (away x Through 0)
     ∷ withOne x (away x Through 2)
     ∷ withOne x (away x (Train 0 0) 1)
+    ∷ withOne x (away x (LastTrain 0 0 0) 1)
     -- "OPEN has asked 1 to 8"; asked and granted are at most 8 on RETURN and TRAIN, 0 being none
     ∷ withOne x (away x (Open 0) 1)
     ∷ withOne x (away x (Open 9) 1)
@@ -118,6 +121,10 @@ illAt x =
     ∷ withOne x (away x (Return 0 9) 1)
     ∷ withOne x (away x (Train 9 0) 0)
     ∷ withOne x (away x (Train 0 9) 0)
+    ∷ withOne x (away x (LastTrain 9 0 0) 0)
+    ∷ withOne x (away x (LastTrain 0 9 0) 0)
+    -- T-03: given up is "0 to 7"
+    ∷ withOne x (away x (LastTrain 0 0 8) 0)
     -- "not in force, all but the count is as fresh"
     ∷ idle x (withClock 1 freshDesk)
     ∷ idle x (withLast 1 freshDesk)
@@ -138,6 +145,7 @@ illUnused place =
     ∷ unusedHolds place (vehicle Through 0 0 0 false 0)
     ∷ unusedHolds place (vehicle (Return 0 0) 0 0 0 false 0)
     ∷ unusedHolds place (vehicle (Train 0 0) 0 0 0 false 0)
+    ∷ unusedHolds place (vehicle (LastTrain 0 0 0) 0 0 0 false 0)
     ∷ unusedHolds place (vehicle (Open 0) 1 0 0 false 0)
     ∷ unusedHolds place (vehicle (Open 0) 0 1 0 false 0)
     ∷ unusedHolds place (vehicle (Open 0) 0 0 1 false 0)
@@ -181,7 +189,7 @@ atLimitsOf x =
     ∷ withOne x (vehicle Through (numberAt x) 5 2 true 1)
     ∷ withOne x (vehicle (Open 1) (numberAt x) 5 1 true 1)
     ∷ withOne x (vehicle (Open 1) (numberAt x) 5 2 true 1)
-    -- class, asked and granted at both ends
+    -- class, asked, granted and given up at both ends
     ∷ withOne x (away x (Open 1) 1)
     ∷ withOne x (away x (Open 8) 5)
     ∷ withOne x (away x Through 1)
@@ -189,6 +197,8 @@ atLimitsOf x =
     ∷ withOne x (away x (Return 8 8) 5)
     ∷ withOne x (away x (Train 0 0) 0)
     ∷ withOne x (away x (Train 8 8) 0)
+    ∷ withOne x (away x (LastTrain 0 0 0) 0)
+    ∷ withOne x (away x (LastTrain 8 8 7) 0)
     ∷ []
 
 abbrev atLimits : List Section
@@ -219,8 +229,8 @@ abbrev afterEach : List Section → List Section
 afterEach [] = []
 afterEach (s ∷ l) = stepOf s [] .section ∷ afterEach l
 
--- each of 110 sections is answered 5
-pub all-five : (rowsNot 5 1 illMade ≡ []) × (length illMade ≡ 110)
+-- each of 124 sections is answered 5
+pub all-five : (rowsNot 5 1 illMade ≡ []) × (length illMade ≡ 124)
 unfolding step-computes
 all-five = (refl, refl)
 
@@ -229,7 +239,7 @@ pub five-alters-nothing : afterEach illMade ≡ illMade
 unfolding step-computes
 five-alters-nothing = refl
 
--- each of 48 sections is answered as no bytes are: 1, and not 5
-pub none-five : (rowsNot 1 1 atLimits ≡ []) × (length atLimits ≡ 48)
+-- each of 52 sections is answered as no bytes are: 1, and not 5
+pub none-five : (rowsNot 1 1 atLimits ≡ []) × (length atLimits ≡ 52)
 unfolding step-computes
 none-five = (refl, refl)

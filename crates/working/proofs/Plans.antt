@@ -3,17 +3,17 @@
 -- the rest.
 -- Assumes nothing.
 use Prim.Native.Nat.{_%_, _+_, _<_, _≤_, ℕ}
-use Rattle.working.proofs.Clauses.{Bounds, MovementMade, Shape}
-use Rattle.working.proofs.Invariant.{Halves, isOpen, kept-opener, kept-return, kept-train}
+use Rattle.working.proofs.Clauses.{Bounds, Few, MovementMade, Shape}
+use Rattle.working.proofs.Invariant.{Halves, hauled, isOpen, kept-opener, kept-return, kept-train, spends}
 use Rattle.working.proofs.ReplyLast.{Allowed01, ReplyLast, last-opener, last-return, last-train}
 use Rattle.working.proofs.Ranges.{ActMade}
 use Rattle.working.proofs.Reasons.{OpenPasses, depart-passes, open-passes, receive-passes, return-passes, train-passes}
 use Rattle.working.proofs.Scans.{scanned}
-use Rattle.working.proofs.Tests.{NoneHolds, and, either-most}
+use Rattle.working.proofs.Tests.{NoneHolds, and, clash, either-most}
 use Rattle.working.specs.Acts as acts
 use Rattle.working.specs.Acts.{Act}
-use Rattle.working.specs.Departures.{kindIn, kindOf}
-use Rattle.working.specs.Effects.{Arrive, Depart, Departing, Order, Plan, Refuse, arriveDesk, departed, isSlow, nextForm, openForms, openSpeed, throughForms, vehicleFor}
+use Rattle.working.specs.Departures.{LAST-TRAIN, TRAIN, kindIn, kindOf}
+use Rattle.working.specs.Effects.{Arrive, Depart, Departing, Order, Plan, Refuse, arriveDesk, departed, isSlow, nextForm, openForms, openSpeed, throughForms, trainMovement, vehicleFor}
 use Rattle.working.specs.Reasons.{departTests, isNamed, mayEnter, openTests, receiveTests, returnTests, stationTests, trainTests}
 use Rattle.working.specs.Refusals.{Test, firstOf}
 use Rattle.working.specs.Sections.{numberAt, withFigures, withOut}
@@ -22,7 +22,7 @@ use Rattle.working.specs.WellMade.{isOpener, notLater}
 use Rattle.working.specs.declared.Clears.{Clears}
 use Rattle.working.specs.declared.Desk.{Desk}
 use Rattle.working.specs.declared.Interval.the-variants.{Since}
-use Rattle.working.specs.declared.Movement.the-variants.{Open, Return, Through, Train}
+use Rattle.working.specs.declared.Movement.the-variants.{Open, Return, Through}
 use Rattle.working.specs.declared.Movement.{Movement}
 use Rattle.working.specs.declared.Refusal.{Refusal}
 use Rattle.working.specs.declared.Station.the-variants.{A, B}
@@ -32,7 +32,7 @@ use Rattle.working.specs.declared.View.the-variants.{Clear, Impaired, Ni
 use Rattle.working.specs.declared.View.{View}
 use borrow.Author.Tests.{le-leb}
 use lib.Dec.{eqb, ltb}
-use mathlib.Core.Bool.{Bool, _&&_, false≢true, or-true, true}
+use mathlib.Core.Bool.{Bool, _&&_, cond, false, false≢true, or-true, true}
 use mathlib.Core.List.{List, _++_, _∷_}
 use mathlib.Core.Option.{some}
 use mathlib.Core.Path.{_≡_, refl}
@@ -156,20 +156,30 @@ fate (acts.Return asked granted) x force d t v few b =
       kind = refl;
       slowly = λ q. absurd (false≢true q);
     })
-fate (acts.Train w asked granted) x force d t v few b =
-    departs-by (acts.Train w asked granted) x force d t v (trainTests d granted) _ _ _ (Train asked granted) 0 _
+fate (acts.Train endorsed w asked granted) x force d t v few b =
+    departs-by (acts.Train endorsed w asked granted) x force d t v (trainTests d granted) _ _ _ (trainMovement endorsed (d .clears .holds) asked granted) 0 _
     (λ n.
+    let p = train-passes d granted n in
+    let s = spends endorsed (d .clears .holds) asked granted (p .holds) in
     let none : 0 ≤ 8 = omega arith in
     let enquired : d .clears .asked ≤ 8 = omega arith in
     let owes : d .clears .owes ≤ 8 = omega arith in
     record {
-      bounds = omega (arith, either-most (ltb 0 granted) none enquired, either-most (ltb 0 granted) (few .granted) owes);
-      made = omega arith;
-      keeps = λ o mine theirs h. kept-train d o t asked granted mine theirs h (train-passes d granted n);
-      replies = λ o mine theirs h. last-train d o t asked granted mine theirs h (train-passes d granted n);
-      kind = refl;
-      slowly = λ q. absurd (false≢true q);
+      bounds = omega (arith, s .sum, either-most (ltb 0 granted) none enquired, either-most (ltb 0 granted) (few .granted) owes);
+      made = train-made endorsed (d .clears .holds) few (omega arith);
+      keeps = λ o mine theirs h. kept-train d o endorsed t granted _ mine theirs h p s;
+      replies = λ o mine theirs h. last-train d o endorsed t granted _ mine theirs h p;
+      kind = train-kind endorsed;
+      slowly = λ q. absurd (clash q (hauled (trainMovement endorsed (d .clears .holds) asked granted) (s .train) .fast));
     })
+  where
+    train-made : (endorsed : Bool) (holds : ℕ) → Few asked granted → holds ≤ 8 → MovementMade (trainMovement endorsed holds asked granted) 0
+    train-made false holds few most = omega arith
+    train-made true holds few most = omega arith
+
+    train-kind : (endorsed : Bool) → some (cond endorsed LAST-TRAIN TRAIN) ≡ some (kindIn (trainMovement endorsed (d .clears .holds) asked granted))
+    train-kind false = refl
+    train-kind true = refl
 fate (acts.Receive y k) x force d t v made b =
     scanned (λ r. Fate (acts.Receive y k) x force d t v (unlessRefused r (Arrive (arriveDesk x d t v)))) (stationTests force d t ++ receiveTests x y k v) refuses
     (λ n.

@@ -33,7 +33,7 @@ abbrev pub ActMade : Act → Type 0
 ActMade (acts.Open view class asked) = Carried 1 5 1 class asked 0
 ActMade (acts.Through view) = Unit {0}
 ActMade (acts.Return asked granted) = Few asked granted
-ActMade (acts.Train view asked granted) = Few asked granted
+ActMade (acts.Train endorsed view asked granted) = Few asked granted
 ActMade (acts.Receive sender form) = Unit {0}
 
 abbrev pub Ranged : Event → Type 0
@@ -48,7 +48,7 @@ Ranged Resume = Unit {0}
 pub data Placed (kind station : ℕ) : Whose → Type 0 where
   nowhere : station ≡ 0 → Placed kind station NoStation
   met : kind ≡ 7 → Placed kind station NoStation
-  own : (x : Station) → station ≡ numberAt x → kind < 7 → Placed kind station (Of x)
+  own : (x : Station) → station ≡ numberAt x → (kind ≡ 7 → ⊥) → Placed kind station (Of x)
 
 -- ---- a field
 
@@ -86,10 +86,10 @@ bad-says e = subst isBad e tt
 -- ---- a taken entry
 
 module _ (e : Entry) (allowed : judge e ≡ Allowed) where
-  known : (1 ≤ e .kind) × (e .kind ≤ 8)
+  known : (1 ≤ e .kind) × (e .kind ≤ 9)
   known =
-      let range = both (leb 1 (e .kind)) (leb (e .kind) 8) (both (stands 0 (e .map)) (leb 1 (e .kind) && leb (e .kind) 8) (taken e allowed .known) .1) in
-      (leb-true 1 (e .kind) (range .0), leb-true (e .kind) 8 (range .1))
+      let range = both (leb 1 (e .kind)) (leb (e .kind) 9) (both (stands 0 (e .map)) (leb 1 (e .kind) && leb (e .kind) 9) (taken e allowed .known) .1) in
+      (leb-true 1 (e .kind) (range .0), leb-true (e .kind) 9 (range .1))
 
   few : Few (e .asked) (e .granted)
   few =
@@ -115,7 +115,8 @@ module _ (e : Entry) (allowed : judge e ≡ Allowed) where
       (λ k. either Ranged (eqb (e .kind) 4) (λ k. few)
       (λ k. either Ranged (eqb (e .kind) 5) (λ k. few)
       (λ k. either Ranged (eqb (e .kind) 6) (λ k. tt)
-      (λ k. either Ranged (eqb (e .kind) 7) (λ k. tt) (λ k. tt)))))))
+      (λ k. either Ranged (eqb (e .kind) 7) (λ k. tt)
+      (λ k. either Ranged (eqb (e .kind) 9) (λ k. few) (λ k. tt))))))))
 
   -- ---- whose it is
 
@@ -127,8 +128,8 @@ module _ (e : Entry) (allowed : judge e ≡ Allowed) where
   no-station : not (stands 1 (e .map)) ≡ true → Placed (e .kind) (e .station) NoStation
   no-station absent = nowhere (eqb-true (e .station) 0 (rw (not-true (stands 1 (e .map)) absent) at (taken e allowed .ranges .station)))
 
-  its-station : e .kind < 7 → stands 1 (e .map) ≡ true → Placed (e .kind) (e .station) (Of (stationOf (e .station)))
-  its-station below there = own (stationOf (e .station)) (by (between (stands 1 (e .map)) 1 2 (e .station) there (taken e allowed .ranges .station)) (eqb (e .station) 1) refl) below
+  its-station : (e .kind ≡ 7 → ⊥) → stands 1 (e .map) ≡ true → Placed (e .kind) (e .station) (Of (stationOf (e .station)))
+  its-station unmet there = own (stationOf (e .station)) (by (between (stands 1 (e .map)) 1 2 (e .station) there (taken e allowed .ranges .station)) (eqb (e .station) 1) refl) unmet
     where
       by : (1 ≤ e .station) × (e .station ≤ 2) → (b : Bool) → eqb (e .station) 1 ≡ b → e .station ≡ numberAt (cond b A B)
       by range true is = eqb-true (e .station) 1 is
@@ -143,12 +144,14 @@ module _ (e : Entry) (allowed : judge e ≡ Allowed) where
   placed =
       let P : Event → Type 0 = λ (event : Event). Placed (e .kind) (e .station) (whoseIs (Says event)) in
       from P 1 (known .0) (λ is. no-station (bit 1 is))
-      (λ h. from P 2 h (λ is. its-station (omega arith) (bit 2 is))
-      (λ h. from P 3 h (λ is. its-station (omega arith) (bit 3 is))
-      (λ h. from P 4 h (λ is. its-station (omega arith) (bit 4 is))
-      (λ h. from P 5 h (λ is. its-station (omega arith) (bit 5 is))
-      (λ h. from P 6 h (λ is. its-station (omega arith) (bit 6 is))
-      (λ h. from P 7 h (λ is. met is) (λ h. no-station (bit 8 (omega (arith, known .1))))))))))
+      (λ h. from P 2 h (λ is. its-station (λ seven. omega arith) (bit 2 is))
+      (λ h. from P 3 h (λ is. its-station (λ seven. omega arith) (bit 3 is))
+      (λ h. from P 4 h (λ is. its-station (λ seven. omega arith) (bit 4 is))
+      (λ h. from P 5 h (λ is. its-station (λ seven. omega arith) (bit 5 is))
+      (λ h. from P 6 h (λ is. its-station (λ seven. omega arith) (bit 6 is))
+      (λ h. from P 7 h (λ is. met is)
+      (λ h. either P (eqb (e .kind) 9) (λ is. its-station (λ seven. omega (arith, eqb-true (e .kind) 9 is)) (bit 9 (eqb-true (e .kind) 9 is)))
+      (λ other. no-station (bit 8 (omega (arith, known .1, eqb-false (e .kind) 9 other)))))))))))
 
 -- ---- what is read
 
@@ -161,8 +164,8 @@ ranged-of bytes event =
     bytes 0
 
 -- the kind of the entry at a position of a log, and whose it is
-pub kind-at : (log : List ℕ) (at : ℕ) → kindRead (readAt log at) ≤ 8
-kind-at = read-by (λ read. kindRead read ≤ 8) (omega arith) (λ why next. omega arith) (λ e next allowed. known e allowed .1)
+pub kind-at : (log : List ℕ) (at : ℕ) → kindRead (readAt log at) ≤ 9
+kind-at = read-by (λ read. kindRead read ≤ 9) (omega arith) (λ why next. omega arith) (λ e next allowed. known e allowed .1)
 
 pub placed-at : (log : List ℕ) (at : ℕ) → Placed (kindRead (readAt log at)) (stationRead (readAt log at)) (whoseIs (decodedAs (readAt log at)))
 placed-at =

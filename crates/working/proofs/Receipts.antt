@@ -11,7 +11,7 @@ use Rattle.working.specs.WellMade.{isFrom, isOpener, notLater}
 use Rattle.working.specs.declared.Clears.{Clears}
 use Rattle.working.specs.declared.Desk.{Desk}
 use Rattle.working.specs.declared.Interval.the-variants.{Stopped}
-use Rattle.working.specs.declared.Movement.the-variants.{Open, Return, Through, Train}
+use Rattle.working.specs.declared.Movement.the-variants.{LastTrain, Open, Return, Through, Train}
 use Rattle.working.specs.declared.Movement.{Movement}
 use Rattle.working.specs.declared.Station.{Station}
 use Rattle.working.specs.declared.Vehicle.{Vehicle}
@@ -42,6 +42,7 @@ arrives-own d t (Open a) is b = arrived d t (d .sent - 1) _ _ _ (omega arith)
 arrives-own d t Through is b = arrived d t (d .sent - 1) _ _ _ (omega arith)
 arrives-own d t (Return a g) is b = absurd (false≢true is)
 arrives-own d t (Train a g) is b = absurd (false≢true is)
+arrives-own d t (LastTrain a g u) is b = absurd (false≢true is)
 
 pub arrives-far : (d : Desk) (t class : ℕ) (m : Movement) → MovementMade m class → Bounds d → Arrives d (otherDesk d t class m) 0
 arrives-far d t class (Open a) made b = arrived d t 0 _ _ _ (omega arith)
@@ -52,6 +53,9 @@ arrives-far d t class (Return a g) made b =
 arrives-far d t class (Train a g) made b =
     let enquired : d .clears .asked ≤ 8 = omega arith in
     arrived d t 0 _ _ _ (omega (arith, either-most (ltb 0 a) (made .asked) enquired))
+arrives-far d t class (LastTrain a g u) made b =
+    let enquired : d .clears .asked ≤ 8 = omega arith in
+    arrived d t 0 _ _ _ (omega (arith, either-most (ltb 0 a) (made .0 .asked) enquired))
 
 -- the reply that the vehicle brings, and what waits
 granted-most : (m : Movement) (class : ℕ) → MovementMade m class → grantedIn m ≤ 8
@@ -59,6 +63,7 @@ granted-most (Open a) class made = made .granted
 granted-most Through class made = made .granted
 granted-most (Return a g) class made = made .granted
 granted-most (Train a g) class made = made .granted
+granted-most (LastTrain a g u) class made = made .0 .granted
 
 pub arrives-replied : (d e : Desk) (n : ℕ) (m : Movement) (class : ℕ) → MovementMade m class → Arrives d e n → Arrives d (replied (grantedIn m) e) n
 arrives-replied d e n m class made a =
@@ -89,6 +94,7 @@ keeps-own d o t (Open a) mine theirs is h = kept-own d o t (d .sent - 1) (Open a
 keeps-own d o t Through mine theirs is h = kept-own d o t (d .sent - 1) Through mine theirs h is
 keeps-own d o t (Return a g) mine theirs is h = absurd (false≢true is)
 keeps-own d o t (Train a g) mine theirs is h = absurd (false≢true is)
+keeps-own d o t (LastTrain a g u) mine theirs is h = absurd (false≢true is)
 
 pub keeps-far : (d o : Desk) (t class : ℕ) (m : Movement) (l : List Movement) → MovementMade m class → Halves d o [] (l ++ m ∷ [])
     → Halves (replied (grantedIn m) (otherDesk d t class m)) o [] l
@@ -96,6 +102,7 @@ keeps-far d o t class (Open a) l made h = kept-guest d o t class a l h (made .le
 keeps-far d o t class Through l made h = kept-far d o t class Through l h refl
 keeps-far d o t class (Return a g) l made h = kept-far d o t class (Return a g) l h refl
 keeps-far d o t class (Train a g) l made h = kept-far d o t class (Train a g) l h refl
+keeps-far d o t class (LastTrain a g u) l made h = kept-far d o t class (LastTrain a g u) l h refl
 
 -- ---- whose it is
 

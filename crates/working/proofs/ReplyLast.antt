@@ -1,19 +1,19 @@
 -- What stands beside the invariant in a list of which document 01's own step refuses none: nothing waits, a desk that holds a line clear owes none, and no vehicle
 -- grants any but the one nearest its sender. So whoever receives a grant owes nothing after it, and holds it at once, as in document 01.
 -- Assumes nothing.
-use Prim.Native.Nat.{_<_, _≤_, ℕ}
-use Rattle.working.proofs.Invariant.{Halves, brings, far-holds, far-sum, granted, or-else, own-sum, released, trains, weigh-snoc}
+use Prim.Native.Nat.{_-_, _<_, _≤_, ℕ}
+use Rattle.working.proofs.Invariant.{Halves, brings, closed, far-holds, far-sum, granted, or-else, own-sum, released, spent, weigh-snoc}
 use Rattle.working.proofs.Reasons.{OpenPasses, ReturnPasses, TrainPasses}
 use Rattle.working.proofs.Tests.{zero-unless}
 use Rattle.working.specs.Acts as acts
 use Rattle.working.specs.Acts.{Act}
-use Rattle.working.specs.Effects.{departed, grantedDesk, grantedIn, otherDesk, replied, returnDesk, trainDesk}
+use Rattle.working.specs.Effects.{clearsLeft, departed, grantedDesk, grantedIn, otherDesk, replied, returnDesk, trainDesk}
 use Rattle.working.specs.Sections.{withOut}
 use Rattle.working.specs.declared.Desk.{Desk}
-use Rattle.working.specs.declared.Movement.the-variants.{Return, Train}
+use Rattle.working.specs.declared.Movement.the-variants.{Return}
 use Rattle.working.specs.declared.Movement.{Movement}
 use lib.ListN.{drop}
-use mathlib.Core.Bool.{Bool}
+use mathlib.Core.Bool.{Bool, false, true}
 use mathlib.Core.List.{List, [], _++_, _∷_}
 use mathlib.Core.Path.{_∙_, _≡_, ap, refl}
 use native.Mathlib.Omega.{arith}
@@ -29,10 +29,15 @@ abbrev pub Allowed01 : Act → Desk → Type 0
 Allowed01 (acts.Open view class asked) d = Unit {0}
 Allowed01 (acts.Through view) d = Unit {0}
 Allowed01 (acts.Return asked granted) d = Unit {0}
-Allowed01 (acts.Train view asked granted) d = 0 < granted → d .clears .holds ≤ 1
+Allowed01 (acts.Train endorsed view asked granted) d = 0 < granted → d .clears .holds ≤ 1
 Allowed01 (acts.Receive sender form) d = Unit {0}
 
 -- ---- departures
+
+-- a TRAIN leaves fewer held, endorsed as the last or not
+fewer : (endorsed : Bool) (holds : ℕ) → clearsLeft endorsed holds ≤ holds - 1
+fewer false holds = omega arith
+fewer true holds = omega arith
 
 pub last-opener : (d o : Desk) (t : ℕ) (out : Bool) (m : Movement) (mine theirs : List Movement) → Halves d o mine theirs → OpenPasses d → ReplyLast d mine
     → ReplyLast (withOut out (departed d t)) (m ∷ mine)
@@ -43,13 +48,13 @@ pub last-return : (d o : Desk) (t a g : ℕ) (mine theirs : List Movement) → H
 last-return d o t a g mine theirs h p k =
     record { waiting = k .waiting; owes = λ some. absurd (omega (arith, p .holds)); near = ap granted (h .own .guests (p .guest) .none) }
 
-pub last-train : (d o : Desk) (t a g : ℕ) (mine theirs : List Movement) → Halves d o mine theirs → TrainPasses d g → (0 < g → d .clears .holds ≤ 1) → ReplyLast d mine
-    → ReplyLast (trainDesk d t g) (Train a g ∷ mine)
-last-train d o t a g mine theirs h p last k =
+pub last-train : (d o : Desk) (endorsed : Bool) (t g : ℕ) (m : Movement) (mine theirs : List Movement) → Halves d o mine theirs → TrainPasses d g
+    → (0 < g → d .clears .holds ≤ 1) → ReplyLast d mine → ReplyLast (trainDesk endorsed d t g) (m ∷ mine)
+last-train d o endorsed t g m mine theirs h p last k =
     let free = k .owes (p .holds) in
     record {
       waiting = k .waiting;
-      owes = λ some. or-else g (d .clears .owes) free ∙ zero-unless g (λ grants. omega (arith, last grants));
+      owes = λ some. or-else g (d .clears .owes) free ∙ zero-unless g (λ grants. omega (arith, last grants, fewer endorsed (d .clears .holds)));
       near = omega (arith, h .own .sum);
     }
 
@@ -76,13 +81,13 @@ module _ (d o : Desk) (t class : ℕ) (m : Movement) (l : List Movement) (h : Ha
   -- a grant is the last that comes, and its sender holds none
   pub paid : 0 < grantedIn m → taken .clears .owes ≡ 0
   paid some =
-      let none : trains l ≡ 0 = ap trains (alone l m (far .near) some) in
+      let none : spent l ≡ 0 = ap spent (alone l m (far .near) some) in
       let their-holds : o .clears .holds ≡ 0 = zero-unless (o .clears .holds) (λ held. omega (arith, far .owes held, far-sum d o m l h)) in
-      omega (arith, own-sum d o m l h, brings d t class m .owes)
+      omega (arith, own-sum d o m l h, brings d t class m (closed d o m l h) .owes)
 
   pub last-far : ReplyLast (replied (grantedIn m) taken) [] × ReplyLast o l
   last-far =
-      let b = brings d t class m in
+      let b = brings d t class m (closed d o m l h) in
       let after = released (grantedDesk (grantedIn m) taken) (b .holds ∙ far-holds d o m l h) in
       let waits = or-else (grantedIn m) (taken .waiting) (b .waiting ∙ own .waiting) in
       let none : replied (grantedIn m) taken .waiting ≡ 0 = zero-unless _ (λ some. omega (arith, after .sum, after .waits some, paid (omega (arith, after .sum)))) in (

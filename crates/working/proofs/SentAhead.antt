@@ -7,7 +7,7 @@ use Rattle.working.proofs.Computing.{step-computes}
 use Rattle.working.proofs.Consequences.{Owed, following, holding, list, owed}
 use Rattle.working.proofs.Lists.{after, done, runs}
 use Rattle.working.proofs.Literals.{receive, train, trainGranting}
-use Rattle.working.specs.Document01.{stepOf01}
+use Rattle.working.specs.Document01.{decode01, stepOf01}
 use Rattle.working.specs.Effects.{wayForm}
 use Rattle.working.specs.Runs.{acceptsBy, endBy, results, resultsBy}
 use Rattle.working.specs.Sections.{deskOf, fresh, numberAt, otherAt}
@@ -36,12 +36,12 @@ allIn x = waiting x ++ receive (numberAt (otherAt x)) 160 (numberAt x) 3 ∷ []
 
 -- sent ahead, the three are on the way; they wait at the other while it owes the second train; and it holds them when that one is in
 sent-ahead : (x : Station)
-    → Owed (ahead x) x 3 0 0 0 3
-    × Owed (ahead x) (otherAt x) 2 0 0 2 0
-    × Owed (waiting x) x 3 0 3 0 0
-    × Owed (waiting x) (otherAt x) 1 0 0 1 0
-    × Owed (allIn x) x 3 3 0 0 0
-    × Owed (allIn x) (otherAt x) 0 0 0 0 0
+    → Owed (ahead x) x 3 0 0 0 0 3
+    × Owed (ahead x) (otherAt x) 2 0 0 2 0 0
+    × Owed (waiting x) x 3 0 3 0 0 0
+    × Owed (waiting x) (otherAt x) 1 0 0 1 0 0
+    × Owed (allIn x) x 3 3 0 0 0 0
+    × Owed (allIn x) (otherAt x) 0 0 0 0 0 0
 unfolding step-computes
 sent-ahead A = (owed (ahead A) A refl, owed (ahead A) B refl, owed (waiting A) A refl, owed (waiting A) B refl, owed (allIn A) A refl, owed (allIn A) B refl)
 sent-ahead B = (owed (ahead B) B refl, owed (ahead B) A refl, owed (waiting B) B refl, owed (waiting B) A refl, owed (allIn B) B refl, owed (allIn B) A refl)
@@ -54,7 +54,7 @@ replying x = trainGranting (numberAt x) 91 3
 refused-before : (x : Station)
     → (stepOf01 (after fresh (list (holding x))) (replying x) .answer ≡ Refused GrantNotAllowed)
     × (acceptsBy stepOf01 fresh (done fresh (list (ahead x))) ≡ false)
-unfolding step-computes stepOf01
+unfolding decode01 step-computes stepOf01
 refused-before A = (refl, refl)
 refused-before B = (refl, refl)
 
@@ -75,7 +75,7 @@ abbrev withTheLast : Station → List (List ℕ)
 withTheLast x = following x ++ receive (numberAt (otherAt x)) 150 (numberAt x) 2 ∷ receive (numberAt (otherAt x)) 160 (numberAt x) 3 ∷ []
 
 accepted-before : (x : Station) → acceptsBy stepOf01 fresh (done fresh (list (withTheLast x))) ≡ true
-unfolding step-computes stepOf01
+unfolding decode01 step-computes stepOf01
 accepted-before A = refl
 accepted-before B = refl
 

@@ -147,7 +147,7 @@ plan-same : (act : Act) (x : Station) (f : Bool) (d : Desk) (t : ℕ) (v w : Veh
 plan-same (acts.Open a b c) x f d t v w h = refl
 plan-same (acts.Through a) x f d t v w h = refl
 plan-same (acts.Return a b) x f d t v w h = refl
-plan-same (acts.Train a b c) x f d t v w h = refl
+plan-same (acts.Train e a b c) x f d t v w h = refl
 plan-same (acts.Receive y n) x f d t v w h = ap (planOf (acts.Receive y n) x f d t) (h refl)
 
 takes-one : {act : Act} {x : Station} {f : Bool} {d : Desk} {t : ℕ} {v : Vehicle} {p : Plan} → Fate act x f d t v p → Accepts p

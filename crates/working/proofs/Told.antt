@@ -5,21 +5,22 @@ use Prim.Native.Nat.{_+_, suc, ℕ}
 use Rattle.working.proofs.Changes.{Change, Sound, arrival, departure, emptying, meeting, refusal, well-at}
 use Rattle.working.proofs.Clauses.{Numbered}
 use Rattle.working.proofs.Every.{Every, every-map}
-use Rattle.working.proofs.Invariant.{granted, trainOne, trains}
+use Rattle.working.proofs.Invariant.{spent, spentIn, trainOne, weigh}
 use Rattle.working.proofs.Vehicles.{eqb-sym, every-end, every-insert, every-turn, number-same}
 use Rattle.working.proofs.Made.{vehicles-after, vehicles-with}
 use Rattle.working.proofs.Plans.{Departs}
 use Rattle.working.proofs.Sides.{moves-weight, movesOf}
 use Rattle.working.specs.Acts.{Act}
-use Rattle.working.specs.Demand3.{ofStation}
+use Rattle.working.specs.Demand3.{givenUpIn, ofStation}
 use Rattle.working.specs.Departures.{Departure, Kind, departureBy, departureOf, departureWith, ifOf, kindIn, kindOf, laterOr, leftOnTrain, leftSlowly}
-use Rattle.working.specs.Effects.{Departing, arriveDesk, grantedIn}
+use Rattle.working.specs.Effects.{Departing, arriveDesk}
 use Rattle.working.specs.Events.{At, Bad, Begin, Decoded, Meet, Resume, Says, decode}
 use Rattle.working.specs.Runs.{Done}
 use Rattle.working.specs.Sections.{deskOf, insertAt, vehiclesOf, numberAt}
 use Rattle.working.specs.Steps.{metAt, redirectAt, redirected}
 use Rattle.working.specs.WellMade.{isOpener, oneIf, sumOver}
 use Rattle.working.specs.declared.Answer.the-variants.{Accepted, Refused}
+use Rattle.working.specs.declared.Movement.{Movement}
 use Rattle.working.specs.declared.Refusal.{Refusal}
 use Rattle.working.specs.declared.Section.{Section}
 use Rattle.working.specs.declared.Station.{Station}
@@ -140,13 +141,21 @@ told-change h d s e r g (meeting x y n i f w) q a t =
 
 -- ---- what the departures say of the vehicles present
 
-pub trains-told : (h : List Done) (y : Station) (l : List Vehicle) → Every (Told h) l
-    → sumOver (ofStation y (λ v. oneIf (leftOnTrain (departureOf h v)))) l ≡ trains (movesOf y l)
-trains-told h y l t = moves-weight y (λ v. oneIf (leftOnTrain (departureOf h v))) trainOne l (every-map (Told h) _ (λ v k. rw (k .is, k .kind)) l t)
-
-pub granted-vehicles : (y : Station) (l : List Vehicle) → sumOver (ofStation y (λ v. grantedIn (v .movement))) l ≡ granted (movesOf y l)
-granted-vehicles y l = moves-weight y (λ v. grantedIn (v .movement)) grantedIn l (alike l)
+-- a figure of what each left on, added up over one station's vehicles
+pub carried : (f : Movement → ℕ) (y : Station) (l : List Vehicle) → sumOver (ofStation y (λ v. f (v .movement))) l ≡ weigh f (movesOf y l)
+carried f y l = moves-weight y (λ v. f (v .movement)) f l (alike l)
   where
-    alike : (l : List Vehicle) → Every (λ v. grantedIn (v .movement) ≡ grantedIn (v .movement)) l
+    alike : (l : List Vehicle) → Every (λ v. f (v .movement) ≡ f (v .movement)) l
     alike [] = tt
     alike (v ∷ l) = (refl, alike l)
+
+weigh-both : (f g : Movement → ℕ) (l : List Movement) → weigh (λ m. f m + g m) l ≡ weigh f l + weigh g l
+weigh-both f g [] = refl
+weigh-both f g (m ∷ l) = omega (arith, weigh-both f g l)
+
+-- the trains, as the list of steps tells them, and what they give up
+pub spent-told : (h : List Done) (y : Station) (l : List Vehicle) → Every (Told h) l
+    → sumOver (ofStation y (λ v. oneIf (leftOnTrain (departureOf h v)))) l + sumOver (ofStation y (λ v. givenUpIn (v .movement))) l ≡ spent (movesOf y l)
+spent-told h y l t =
+    let trains = moves-weight y (λ v. oneIf (leftOnTrain (departureOf h v))) trainOne l (every-map (Told h) _ (λ v k. rw (k .is, k .kind)) l t) in
+    ap₂ _+_ trains (carried givenUpIn y l) ∙ sym (weigh-both trainOne givenUpIn (movesOf y l))

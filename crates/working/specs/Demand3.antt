@@ -11,6 +11,8 @@ use Rattle.working.specs.Turns.{isAccepted}
 use Rattle.working.specs.WellMade.{isFrom, oneIf, sumOver}
 use Rattle.working.specs.declared.Answer.the-variants.{Accepted, Refused}
 use Rattle.working.specs.declared.Answer.{Answer}
+use Rattle.working.specs.declared.Movement.the-variants.{LastTrain, Open, Return, Through, Train}
+use Rattle.working.specs.declared.Movement.{Movement}
 use Rattle.working.specs.declared.Section.{Section}
 use Rattle.working.specs.declared.Station.the-variants.{A, B}
 use Rattle.working.specs.declared.Station.{Station}
@@ -38,6 +40,17 @@ trainsOf l s x = sumOver (ofStation x (λ v. oneIf (leftOnTrain (departureOf l v
 -- "Line clears on the way to a station are the granted carried by the other's vehicles in the section."
 abbrev pub onTheWayTo : Section → Station → ℕ
 onTheWayTo s x = sumOver (ofStation (otherAt x) (λ v. grantedIn (v .movement))) (vehiclesOf s)
+
+-- T-03: the line clears that a vehicle gives up, and those that a station's vehicles in the section carry
+abbrev pub givenUpIn : Movement → ℕ
+givenUpIn (Open asked) = 0
+givenUpIn Through = 0
+givenUpIn (Return asked granted) = 0
+givenUpIn (Train asked granted) = 0
+givenUpIn (LastTrain asked granted givenUp) = givenUp
+
+abbrev pub givenUpBy : Section → Station → ℕ
+givenUpBy s x = sumOver (ofStation x (λ v. givenUpIn (v .movement))) (vehiclesOf s)
 
 -- ---- neighbours
 
@@ -73,10 +86,11 @@ pub record Demand3 {l : List Done} {s : Section} (run : Run fresh l s) : Type 0 
   -- any two vehicles heading towards one another both left on T/B 602 at 15 km/h or less
   pub opposed : (i j : ℕ) → i < j → j < s .len → vehicleAt s i .heading ≡ numberAt B → vehicleAt s j .heading ≡ numberAt A
       → (leftSlowly (departureOf l (vehicleAt s i)) ≡ true) × (leftSlowly (departureOf l (vehicleAt s j)) ≡ true)
-  -- line clears owed by each station = those the other holds + those waiting at the other + the other's trains in the section + line clears on the way to the other;
-  -- T-02: "the sum of clears owed counts those waiting as well"
+  -- line clears owed by each station = those the other holds + those waiting at the other + the other's trains in the section + the line clears given up that these
+  -- carry + line clears on the way to the other; T-02: "the sum of clears owed counts those waiting as well", T-03: those given up "are added beside the train"
   pub owed : s .force ≡ true → (x : Station)
-      → deskOf s x .clears .owes ≡ deskOf s (otherAt x) .clears .holds + deskOf s (otherAt x) .waiting + trainsOf l s (otherAt x) + onTheWayTo s (otherAt x)
+      → deskOf s x .clears .owes
+        ≡ deskOf s (otherAt x) .clears .holds + deskOf s (otherAt x) .waiting + trainsOf l s (otherAt x) + givenUpBy s (otherAt x) + onTheWayTo s (otherAt x)
   -- two neighbours change places: every entry has the same answer, and the section is the same in every figure
   pub swap : (before : List Done) (d e : Done) (after : List Done) (x y : Station) (first second : Act) → l ≡ before ++ d ∷ e ∷ after
       → AcceptedAt d x first → AcceptedAt e y second → (x ≡ y → ⊥) → (ReceivesIt first x (d .answer) second → ⊥)

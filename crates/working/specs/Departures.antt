@@ -8,7 +8,7 @@ use Rattle.working.specs.Runs.{Done}
 use Rattle.working.specs.Sections.{numberAt}
 use Rattle.working.specs.declared.Answer.the-variants.{Accepted, Refused}
 use Rattle.working.specs.declared.Answer.{Answer}
-use Rattle.working.specs.declared.Movement.the-variants.{Open, Return, Through, Train}
+use Rattle.working.specs.declared.Movement.the-variants.{LastTrain, Open, Return, Through, Train}
 use Rattle.working.specs.declared.Movement.{Movement}
 use Rattle.working.specs.declared.Speed.{Speed}
 use Rattle.working.specs.declared.Station.{Station}
@@ -20,13 +20,14 @@ use mathlib.Core.Option.{Option, none, some}
 
 -- the kinds of a departure, and the kind that a vehicle's record has
 pub data Kind : Type 0 where
-  OPEN THROUGH RETURN TRAIN : Kind
+  OPEN THROUGH RETURN TRAIN LAST-TRAIN : Kind
 
 abbrev pub kindIn : Movement → Kind
 kindIn (Open asked) = OPEN
 kindIn Through = THROUGH
 kindIn (Return asked granted) = RETURN
 kindIn (Train asked granted) = TRAIN
+kindIn (LastTrain asked granted givenUp) = LAST-TRAIN
 
 -- an accepted departure: its station and kind, and its answer's form number, forms and speed
 pub record Departure : Type 0 where
@@ -40,7 +41,7 @@ abbrev pub kindOf : Act → Option Kind
 kindOf (acts.Open view class asked) = some OPEN
 kindOf (acts.Through view) = some THROUGH
 kindOf (acts.Return asked granted) = some RETURN
-kindOf (acts.Train view asked granted) = some TRAIN
+kindOf (acts.Train endorsed view asked granted) = some (cond endorsed LAST-TRAIN TRAIN)
 kindOf (acts.Receive sender form) = none
 
 abbrev pub departureWith : Station → Option Kind → Answer → Option Departure
@@ -75,11 +76,13 @@ abbrev pub leftSlowly : Option Departure → Bool
 leftSlowly none = false
 leftSlowly (some p) = eqb (p .forms % 2) 1 && isSlow (p .speed)
 
+-- T-03: a TRAIN endorsed as the last "counts as a train"
 abbrev pub isTrain : Kind → Bool
 isTrain OPEN = false
 isTrain THROUGH = false
 isTrain RETURN = false
 isTrain TRAIN = true
+isTrain LAST-TRAIN = true
 
 abbrev pub leftOnTrain : Option Departure → Bool
 leftOnTrain none = false

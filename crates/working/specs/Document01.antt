@@ -1,11 +1,13 @@
 -- Document 01's own step, as it stood before the requests that alter what a step answers, with the counts of T-01. Today's step is in Steps; this one stays for the
--- sentence of T-02, "Lists from fresh once accepted throughout are answered as before", which is stated at the end. Only what T-02 altered is written out: refusal 16
--- on a TRAIN, and what a receipt makes of holds. What a later request alters is first written out here as it was. The sections are today's. The step makes nothing wait
--- and moves nothing that waits, so that from fresh nothing waits; and where nothing waits `wellMade` asks what document 01 asks.
+-- sentence of T-02, "Lists from fresh once accepted throughout are answered as before", which is stated at the end. Only what the requests altered is written out: T-02
+-- refusal 16 on a TRAIN, and what a receipt makes of holds; T-03 kind 9, which was refusal 2. What a later request alters is first written out here as it was. The
+-- sections are today's. The step makes nothing wait, moves nothing that waits and sends no vehicle of kind 9, so that from fresh there is none of these; and where there
+-- is none `wellMade` asks what document 01 asks.
 use Prim.Native.Nat.{ℕ}
 use Rattle.working.specs.Acts as acts
 use Rattle.working.specs.Acts.{Act}
 use Rattle.working.specs.Effects.{Arrive, Plan, effectOf, otherDesk, ownDesk}
+use Rattle.working.specs.Entries.{entryIn, isCut}
 use Rattle.working.specs.Events.{At, Bad, Begin, Decoded, Event, Meet, Resume, Says, decode}
 use Rattle.working.specs.Reasons.{departTests, testsOf}
 use Rattle.working.specs.Refusals.{Test, firstOf}
@@ -14,15 +16,15 @@ use Rattle.working.specs.Sections.{deskOf, fresh, nearestAt, numberAt, v
 use Rattle.working.specs.Steps.{doneBy, entered, ifMade, refused, unlessRefused}
 use Rattle.working.specs.WellMade.{wellMade}
 use Rattle.working.specs.declared.Desk.{Desk}
-use Rattle.working.specs.declared.Movement.the-variants.{Open, Return, Through, Train}
+use Rattle.working.specs.declared.Movement.the-variants.{LastTrain, Open, Return, Through, Train}
 use Rattle.working.specs.declared.Movement.{Movement}
-use Rattle.working.specs.declared.Refusal.the-variants.{GrantNotAllowed, NoLineClear}
+use Rattle.working.specs.declared.Refusal.the-variants.{GrantNotAllowed, NoLineClear, UnknownKind}
 use Rattle.working.specs.declared.Section.{Section}
 use Rattle.working.specs.declared.Station.{Station}
 use Rattle.working.specs.declared.Stepped.{Stepped}
 use Rattle.working.specs.declared.Vehicle.{Vehicle}
 use lib.Dec.{eqb, ltb}
-use mathlib.Core.Bool.{Bool, _&&_, _||_, cond, true}
+use mathlib.Core.Bool.{Bool, _&&_, _||_, cond, not, true}
 use mathlib.Core.List.{List, [], _∷_}
 use mathlib.Core.Path.{_≡_}
 
@@ -39,7 +41,7 @@ abbrev pub testsOf01 : Act → Station → Bool → Desk → ℕ → Vehicle →
 testsOf01 (acts.Open view class asked) x force d time v = testsOf (acts.Open view class asked) x force d time v
 testsOf01 (acts.Through view) x force d time v = testsOf (acts.Through view) x force d time v
 testsOf01 (acts.Return asked granted) x force d time v = testsOf (acts.Return asked granted) x force d time v
-testsOf01 (acts.Train view asked granted) x force d time v = departTests force d time (trainTests01 d granted)
+testsOf01 (acts.Train endorsed view asked granted) x force d time v = departTests force d time (trainTests01 d granted)
 testsOf01 (acts.Receive sender form) x force d time v = testsOf (acts.Receive sender form) x force d time v
 
 -- "RETURN and TRAIN set holds to granted"
@@ -48,6 +50,7 @@ holdsAfter01 (Open asked) before = before
 holdsAfter01 Through before = before
 holdsAfter01 (Return asked granted) before = granted
 holdsAfter01 (Train asked granted) before = granted
+holdsAfter01 (LastTrain asked granted givenUp) before = granted
 
 abbrev pub arriveDesk01 : Station → Desk → ℕ → Vehicle → Desk
 arriveDesk01 x d time v =
@@ -58,8 +61,17 @@ abbrev pub effectOf01 : Act → Station → Desk → ℕ → Vehicle → Plan
 effectOf01 (acts.Open view class asked) x d time v = effectOf (acts.Open view class asked) x d time v
 effectOf01 (acts.Through view) x d time v = effectOf (acts.Through view) x d time v
 effectOf01 (acts.Return asked granted) x d time v = effectOf (acts.Return asked granted) x d time v
-effectOf01 (acts.Train view asked granted) x d time v = effectOf (acts.Train view asked granted) x d time v
+effectOf01 (acts.Train endorsed view asked granted) x d time v = effectOf (acts.Train endorsed view asked granted) x d time v
 effectOf01 (acts.Receive sender form) x d time v = Arrive (arriveDesk01 x d time v)
+
+-- ---- what T-03 altered
+
+-- a whole entry of kind 9, "which was refusal 2", whatever else is right or wrong with it
+abbrev pub isNinth : List ℕ → Bool
+isNinth bytes = not (isCut bytes) && eqb (entryIn bytes .kind) 9
+
+unfoldable pub decode01 : List ℕ → Decoded
+decode01 bytes = cond (isNinth bytes) (Bad UnknownKind) (decode bytes)
 
 -- ---- the step
 
@@ -77,7 +89,7 @@ onDecoded01 s (Bad why) = refused s (Bad why) why
 onDecoded01 s (Says event) = entered01 s event
 
 unfoldable pub stepOf01 : Section → List ℕ → Stepped
-stepOf01 s bytes = ifMade (wellMade s) s (onDecoded01 s (decode bytes))
+stepOf01 s bytes = ifMade (wellMade s) s (onDecoded01 s (decode01 bytes))
 
 -- ---- "Lists from fresh once accepted throughout are answered as before"
 

@@ -1,4 +1,4 @@
--- Document 01, "Each entry's effect", and T-02 on the reply that a vehicle brings: speeds, forms, and the desk after a departure and after a receipt. S is the entry's
+-- Document 01, "Each entry's effect", with T-02 on the reply that a vehicle brings and T-03 on a TRAIN endorsed as the last: speeds, forms, and the desk after a departure and after a receipt. S is the entry's
 -- station, O the other.
 use Prim.Native.Nat.{_+_, _-_, ℕ}
 use Rattle.working.specs.Acts as acts
@@ -7,7 +7,7 @@ use Rattle.working.specs.Sections.{numberAt, otherAt, withClears, withEn
 use Rattle.working.specs.declared.Clears.{Clears}
 use Rattle.working.specs.declared.Desk.{Desk}
 use Rattle.working.specs.declared.Interval.the-variants.{Since, Stopped}
-use Rattle.working.specs.declared.Movement.the-variants.{Open, Return, Through, Train}
+use Rattle.working.specs.declared.Movement.the-variants.{LastTrain, Open, Return, Through, Train}
 use Rattle.working.specs.declared.Movement.{Movement}
 use Rattle.working.specs.declared.Refusal.{Refusal}
 use Rattle.working.specs.declared.Speed.the-variants.{Booked, Kmh, NoSpeed, Walking}
@@ -97,12 +97,21 @@ returnClears c granted = record { asked = 0; holds = c .holds; owes = ifAny gran
 abbrev pub returnDesk : Desk → ℕ → ℕ → Desk
 returnDesk d time granted = withClears (returnClears (d .clears) granted) (withGuest 0 (departed d time))
 
--- "TRAIN: holds falls by 1; .. granted above 0 becomes owes and clears S's asked"
-abbrev pub trainClears : Clears → ℕ → Clears
-trainClears c granted = record { asked = cond (ltb 0 granted) 0 (c .asked); holds = c .holds - 1; owes = ifAny granted (c .owes) }
+-- "TRAIN: holds falls by 1"; T-03, endorsed as the last: "the sender's holds becomes 0"
+abbrev pub clearsLeft : Bool → ℕ → ℕ
+clearsLeft endorsed holds = cond endorsed 0 (holds - 1)
 
-abbrev pub trainDesk : Desk → ℕ → ℕ → Desk
-trainDesk d time granted = withClears (trainClears (d .clears) granted) (departed d time)
+-- "TRAIN: .. granted above 0 becomes owes and clears S's asked"
+abbrev pub trainClears : Bool → Clears → ℕ → Clears
+trainClears endorsed c granted = record { asked = cond (ltb 0 granted) 0 (c .asked); holds = clearsLeft endorsed (c .holds); owes = ifAny granted (c .owes) }
+
+abbrev pub trainDesk : Bool → Desk → ℕ → ℕ → Desk
+trainDesk endorsed d time granted = withClears (trainClears endorsed (d .clears) granted) (departed d time)
+
+-- T-03: endorsed as the last, "its vehicle .. carries the holds before it, less 1"
+abbrev pub trainMovement : Bool → ℕ → ℕ → ℕ → Movement
+trainMovement false holds asked granted = Train asked granted
+trainMovement true holds asked granted = LastTrain asked granted (holds - 1)
 
 -- ---- receipts
 
@@ -116,6 +125,7 @@ ownDesk d time (Open asked) = withOut false (received d time (d .sent - 1))
 ownDesk d time Through = received d time (d .sent - 1)
 ownDesk d time (Return asked granted) = d
 ownDesk d time (Train asked granted) = d
+ownDesk d time (LastTrain asked granted givenUp) = d
 
 -- an OPEN "makes .. asked"
 abbrev pub openedClears : Clears → ℕ → Clears
@@ -125,12 +135,14 @@ openedClears c asked = record { asked = asked; holds = c .holds; owes = c .owes 
 abbrev pub broughtClears : Clears → ℕ → ℕ → Clears
 broughtClears c asked owes = record { asked = ifAny asked (c .asked); holds = c .holds; owes = owes }
 
--- "One from O: sent becomes 0, and OPEN makes guest and asked; RETURN clears out; TRAIN lowers owes by 1, not below 0"
+-- "One from O: sent becomes 0, and OPEN makes guest and asked; RETURN clears out; TRAIN lowers owes by 1, not below 0";
+-- T-03, one endorsed as the last: "the receiver's owes becomes 0 on its arrival"
 abbrev pub otherDesk : Desk → ℕ → ℕ → Movement → Desk
 otherDesk d time class (Open asked) = withClears (openedClears (d .clears) asked) (withGuest class (received d time 0))
 otherDesk d time class Through = received d time 0
 otherDesk d time class (Return asked granted) = withClears (broughtClears (d .clears) asked (d .clears .owes)) (withOut false (received d time 0))
 otherDesk d time class (Train asked granted) = withClears (broughtClears (d .clears) asked (d .clears .owes - 1)) (received d time 0)
+otherDesk d time class (LastTrain asked granted givenUp) = withClears (broughtClears (d .clears) asked 0) (received d time 0)
 
 -- a receipt's own effect, by whose vehicle it is
 abbrev pub takenDesk : Station → Desk → ℕ → Vehicle → Desk
@@ -142,6 +154,7 @@ grantedIn (Open asked) = 0
 grantedIn Through = 0
 grantedIn (Return asked granted) = granted
 grantedIn (Train asked granted) = granted
+grantedIn (LastTrain asked granted givenUp) = granted
 
 -- T-02: "At a receipt a grant above 0 takes the place of the clears the receiving station keeps waiting"
 abbrev pub grantedDesk : ℕ → Desk → Desk
@@ -157,7 +170,7 @@ releasedDesk d =
 abbrev pub replied : ℕ → Desk → Desk
 replied granted d = releasedDesk (grantedDesk granted d)
 
--- any receipt, in this order: its own effect, of which a TRAIN lowers owes; the reply that the vehicle brings; and what waits
+-- any receipt, in this order: its own effect, in which a TRAIN lowers owes; the reply that the vehicle brings; and what waits
 unfoldable pub arriveDesk : Station → Desk → ℕ → Vehicle → Desk
 arriveDesk x d time v = replied (grantedIn (v .movement)) (takenDesk x d time v)
 
@@ -197,9 +210,9 @@ effectOf (acts.Return asked granted) x d time v = Depart (record {
   vehicle = vehicleFor x (nextForm d) (Return asked granted) (d .guest);
   order = record { forms = clearForms x true asked granted; speed = Booked };
 })
-effectOf (acts.Train view asked granted) x d time v = Depart (record {
-  desk = trainDesk d time granted;
-  vehicle = vehicleFor x (nextForm d) (Train asked granted) 0;
+effectOf (acts.Train endorsed view asked granted) x d time v = Depart (record {
+  desk = trainDesk endorsed d time granted;
+  vehicle = vehicleFor x (nextForm d) (trainMovement endorsed (d .clears .holds) asked granted) 0;
   order = record { forms = clearForms x (eqb (d .sent) 0) asked granted; speed = trainSpeed (eqb (d .sent) 0) view };
 })
 effectOf (acts.Receive sender form) x d time v = Arrive (arriveDesk x d time v)

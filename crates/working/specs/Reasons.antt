@@ -101,7 +101,7 @@ abbrev pub testsOf : Act → Station → Bool → Desk → ℕ → Vehicle → L
 testsOf (acts.Open view class asked) x force d time v = departTests force d time (openTests d)
 testsOf (acts.Through view) x force d time v = departTests force d time (openTests d)
 testsOf (acts.Return asked granted) x force d time v = departTests force d time (returnTests d granted)
-testsOf (acts.Train view asked granted) x force d time v = departTests force d time (trainTests d granted)
+testsOf (acts.Train endorsed view asked granted) x force d time v = departTests force d time (trainTests d granted)
 testsOf (acts.Receive sender form) x force d time v = stationTests force d time ++ receiveTests x sender form v
 
 -- the place of the vehicle named, or how many there are where it is not present

@@ -5,7 +5,7 @@ use Rattle.working.specs.Sections.{deskOf, freshDesk, vehiclesOf, number
 use Rattle.working.specs.declared.Desk.{Desk}
 use Rattle.working.specs.declared.Interval.the-variants.{Since, Stopped}
 use Rattle.working.specs.declared.Interval.{Interval}
-use Rattle.working.specs.declared.Movement.the-variants.{Open, Return, Through, Train}
+use Rattle.working.specs.declared.Movement.the-variants.{LastTrain, Open, Return, Through, Train}
 use Rattle.working.specs.declared.Movement.{Movement}
 use Rattle.working.specs.declared.Section.{Section}
 use Rattle.working.specs.declared.Station.the-variants.{A, B}
@@ -38,13 +38,16 @@ isOpener (Open asked) = true
 isOpener Through = true
 isOpener (Return asked granted) = false
 isOpener (Train asked granted) = false
+isOpener (LastTrain asked granted givenUp) = false
 
--- "class is 1 to 5 on OPEN and RETURN, 1 on THROUGH, 0 on TRAIN; OPEN has asked 1 to 8 and granted 0, THROUGH both 0"; else asked and granted are at most 8
+-- "class is 1 to 5 on OPEN and RETURN, 1 on THROUGH, 0 on TRAIN; OPEN has asked 1 to 8 and granted 0, THROUGH both 0"; else asked and granted are at most 8;
+-- T-03: "recorded as a TRAIN but for the kind", and given up is "0 to 7, there only"
 abbrev pub movementTests : Movement → ℕ → List Bool
 movementTests (Open asked) class = leb 1 class ∷ leb class 5 ∷ leb 1 asked ∷ leb asked 8 ∷ []
 movementTests Through class = eqb class 1 ∷ []
 movementTests (Return asked granted) class = leb 1 class ∷ leb class 5 ∷ leb asked 8 ∷ leb granted 8 ∷ []
 movementTests (Train asked granted) class = eqb class 0 ∷ leb asked 8 ∷ leb granted 8 ∷ []
+movementTests (LastTrain asked granted givenUp) class = eqb class 0 ∷ leb asked 8 ∷ leb granted 8 ∷ leb givenUp 7 ∷ []
 
 abbrev pub vehicleTests : Vehicle → List Bool
 vehicleTests v =
@@ -77,6 +80,7 @@ isBlankMovement (Open asked) = eqb asked 0
 isBlankMovement Through = false
 isBlankMovement (Return asked granted) = false
 isBlankMovement (Train asked granted) = false
+isBlankMovement (LastTrain asked granted givenUp) = false
 
 abbrev pub isBlank : Vehicle → Bool
 isBlank v = every (isBlankMovement (v .movement) ∷ eqb (v .sender) 0 ∷ eqb (v .form) 0 ∷ eqb (v .heading) 0 ∷ not (v .met) ∷ eqb (v .class) 0 ∷ [])

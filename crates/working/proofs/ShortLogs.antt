@@ -22,16 +22,6 @@ log-3 =
     ∷ 3 ∷ 2 ∷ 8 ∷ 1
     ∷ []
 
-answers-3 : answersIn (turnsOf fresh log-3) ≡
-    Refused NotInForce ∷ Accepted 0 0 NoSpeed ∷ Refused NotNearest ∷ Accepted 1 7 Walking ∷ Accepted 1 1 (Kmh 15)
-    ∷ Refused UnknownKind ∷ Accepted 2 1 Walking ∷ Accepted 0 0 NoSpeed ∷ Accepted 0 0 NoSpeed ∷ Accepted 3 7 (Kmh 15)
-    ∷ Accepted 0 0 NoSpeed ∷ Accepted 0 0 NoSpeed ∷ Accepted 4 7 Walking ∷ Accepted 0 0 NoSpeed ∷ Refused NotNearest
-    ∷ Accepted 0 0 NoSpeed ∷ Accepted 2 1 (Kmh 15) ∷ Accepted 0 0 NoSpeed ∷ Refused AlreadyInForce ∷ Accepted 3 7 (Kmh 15)
-    ∷ Refused MayNotMeet ∷ Accepted 0 0 NoSpeed ∷ Accepted 4 1 Walking ∷ Accepted 0 0 NoSpeed ∷ Accepted 5 7 Walking
-    ∷ Refused EndsInside
-    ∷ []
-unfolding turns-compute
-answers-3 = refl
 
 abbrev log-8 : List ℕ
 log-8 =

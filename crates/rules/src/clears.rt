@@ -1,6 +1,6 @@
 // What a station has asked for, holds, owes and keeps waiting after an act.
 ghost use Prim.Native.Nat.{_-_};
-ghost use Rattle.working.specs.Effects.{broughtClears, grantedIn, ifAny, openedClears, replied, returnClears, trainClears};
+ghost use Rattle.working.specs.Effects.{broughtClears, clearsLeft, grantedIn, ifAny, openedClears, replied, returnClears, trainClears, trainMovement};
 ghost use mathlib.Core.Path.{_≡_};
 use working::Clears;
 use working::Desk;
@@ -31,17 +31,38 @@ pub fn return_clears(c: Clears, granted: u8) -> Clears
     }
 }
 
+// The line clears that a TRAIN leaves held: one less, and none where it is endorsed as the last.
+fn clears_left(endorsed: bool, holds: u8) -> u8
+    ensures { λ r. ⌜ r ≡ clearsLeft endorsed holds ⌝ }
+{
+    if endorsed { 0 } else { lowered(holds) }
+}
+
 // A TRAIN leaves on one of the line clears held; where it takes a reply along, the enquiry is answered and what it grants is owed.
-pub fn train_clears(c: Clears, granted: u8) -> Clears
-    ensures { λ r. ⌜ r ≡ trainClears c granted ⌝ }
+pub fn train_clears(endorsed: bool, c: Clears, granted: u8) -> Clears
+    ensures { λ r. ⌜ r ≡ trainClears endorsed c granted ⌝ }
 {
     let mut after = c;
-    after.holds = lowered(c.holds);
+    after.holds = clears_left(endorsed, c.holds);
     if 0 < granted {
         after.asked = 0;
         after.owes = granted;
     }
     after
+}
+
+// What a TRAIN is in the section: endorsed as the last it carries the line clears that it gives up, all that its station holds but its own.
+pub fn train_movement(endorsed: bool, holds: u8, asked: u8, granted: u8) -> Movement
+    ensures { λ r. ⌜ r ≡ trainMovement endorsed holds asked granted ⌝ }
+{
+    if endorsed {
+        return Movement::LastTrain {
+            asked,
+            granted,
+            given_up: lowered(holds),
+        };
+    }
+    Movement::Train { asked, granted }
 }
 
 // The other station's OPEN brings an enquiry.
@@ -73,6 +94,11 @@ pub fn granted_in(movement: Movement) -> u8
         Movement::Through => 0,
         Movement::Return { asked: _, granted } => granted,
         Movement::Train { asked: _, granted } => granted,
+        Movement::LastTrain {
+            asked: _,
+            granted,
+            given_up: _,
+        } => granted,
     }
 }
 

@@ -11,6 +11,7 @@ pub use clears::opened_clears;
 pub use clears::replied_desk;
 pub use clears::return_clears;
 pub use clears::train_clears;
+pub use clears::train_movement;
 pub use orders::OPEN_FORMS;
 pub use orders::THROUGH_FORMS;
 pub use orders::clear_forms;

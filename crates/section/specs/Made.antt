@@ -11,7 +11,7 @@ use lib.Dec.{leb}
 use mathlib.Core.Bool.{Bool, _&&_, cond, not}
 use mathlib.Core.List.{List, [], _++_, _∷_}
 
--- class, asked and granted are in the ranges of what the vehicle left on
+-- class, asked, granted and given up are in the ranges of what the vehicle left on
 abbrev pub movementMade : Movement → ℕ → Bool
 movementMade movement class = every (movementTests movement class)
 

@@ -24,6 +24,11 @@ pub fn is_opener(movement: Movement) -> bool
             asked: _,
             granted: _,
         } => false,
+        Movement::LastTrain {
+            asked: _,
+            granted: _,
+            given_up: _,
+        } => false,
     }
 }
 
@@ -41,7 +46,7 @@ pub(crate) fn is_same(v: Vehicle, w: Vehicle) -> bool
     (v.sender == w.sender) & (v.form == w.form)
 }
 
-// Whether the class, asked and granted of a vehicle are in the ranges of what it left on.
+// Whether the class, asked, granted and given up of a vehicle are in the ranges of what it left on.
 pub(crate) fn movement_made(movement: Movement, class: u8) -> bool
     ensures { λ r. ⌜ r ≡ movementMade movement class ⌝ }
 {
@@ -52,6 +57,13 @@ pub(crate) fn movement_made(movement: Movement, class: u8) -> bool
         Movement::Through => class == Vehicle::LIGHT_ENGINE,
         Movement::Return { asked, granted } => classed & (asked <= most) & (granted <= most),
         Movement::Train { asked, granted } => (class == 0) & (asked <= most) & (granted <= most),
+        Movement::LastTrain {
+            asked,
+            granted,
+            given_up,
+        } => {
+            (class == 0) & (asked <= most) & (granted <= most) & (given_up <= Desk::MOST_GIVEN_UP)
+        }
     }
 }
 
@@ -80,6 +92,11 @@ pub(crate) fn is_blank_movement(movement: Movement) -> bool
         Movement::Train {
             asked: _,
             granted: _,
+        } => false,
+        Movement::LastTrain {
+            asked: _,
+            granted: _,
+            given_up: _,
         } => false,
     }
 }

@@ -1,4 +1,4 @@
-// OPEN, THROUGH, RETURN and TRAIN: why each is refused, and else the figures that it puts and its driver's order. 7 and 9 are tested first and returned on, so that
+// OPEN, THROUGH, RETURN and TRAIN, endorsed as the last or not: why each is refused, and else the figures that it puts and its driver's order. 7 and 9 are tested first and returned on, so that
 // a kind's own tests stand behind them.
 ghost use Prim.Native.Nat.{_+_, _<_};
 ghost use Rattle.step.specs.Entering.{Enters, Leaves};
@@ -20,6 +20,7 @@ use rules::return_clears;
 use rules::return_verdict;
 use rules::station_verdict;
 use rules::train_clears;
+use rules::train_movement;
 use rules::train_speed;
 use rules::train_verdict;
 use rules::vehicle_for;
@@ -143,9 +144,9 @@ pub(crate) fn enter_return(words: &mut Words, e: Entry) -> Answer
     }
 }
 
-pub(crate) fn enter_train(words: &mut Words, e: Entry) -> Answer
+pub(crate) fn enter_train(words: &mut Words, e: Entry, endorsed: bool) -> Answer
     ensures { λ r. ⌜
-        Enters (now (words .entry)) (At (stationOf (e .station)) (e .time) (acts.Train (viewOf (e .view)) (e .asked) (e .granted))) r (now (words .exit))
+        Enters (now (words .entry)) (At (stationOf (e .station)) (e .time) (acts.Train endorsed (viewOf (e .view)) (e .asked) (e .granted))) r (now (words .exit))
         ⌝ }
 {
     let at = station_of(e.station);
@@ -162,8 +163,9 @@ pub(crate) fn enter_train(words: &mut Words, e: Entry) -> Answer
     }
     let clears = d.clears;
     let booked = d.sent == 0;
-    let form = depart(words, at, e.time, d, Movement::Train { asked, granted }, 0);
-    put_clears(words, at, train_clears(clears, granted));
+    let movement = train_movement(endorsed, clears.holds, asked, granted);
+    let form = depart(words, at, e.time, d, movement, 0);
+    put_clears(words, at, train_clears(endorsed, clears, granted));
     Answer::Accepted {
         form,
         forms: clear_forms(at, booked, asked, granted),

@@ -56,6 +56,11 @@ fn arrive_own(words: &mut Words, at: Station, time: u16, d: Desk, movement: Move
             asked: _,
             granted: _,
         } => {}
+        Movement::LastTrain {
+            asked: _,
+            granted: _,
+            given_up: _,
+        } => {}
     }
 }
 
@@ -81,6 +86,11 @@ fn arrive_other(words: &mut Words, at: Station, time: u16, d: Desk, v: Vehicle)
             let owes = lowered(clears.owes);
             put_clears(words, at, brought_clears(clears, asked, owes));
         }
+        Movement::LastTrain {
+            asked,
+            granted: _,
+            given_up: _,
+        } => put_clears(words, at, brought_clears(clears, asked, 0)),
     }
 }
 

@@ -3,7 +3,7 @@
 use Prim.Native.Nat.{_%_, _*_, _+_, _/_, _<_, _≤_, suc, zero, ℕ}
 use Rattle.words.specs.Words.{firstWord, leftOn, movementIn, packed, vehicleIn}
 use Rattle.working.specs.WellMade.{oneIf}
-use Rattle.working.specs.declared.Movement.the-variants.{Train}
+use Rattle.working.specs.declared.Movement.the-variants.{LastTrain}
 use Rattle.working.specs.declared.Vehicle.{Vehicle}
 use lib.Dec.{eqb}
 use mathlib.Core.Bool.{Bool, false, true}
@@ -23,12 +23,14 @@ one-most false = omega arith
 low : (n above : ℕ) → n < 256 → (n + above * 256) % 256 ≡ n
 low n above h = omega arith
 
-pub movement-back : (left asked granted : ℕ) → left ≤ 3 → asked < 256 → granted < 256 → movementIn (packed left asked granted) ≡ leftOn left asked granted
-movement-back left asked granted l a g =
-    let on : packed left asked granted % 256 ≡ left = omega arith in
-    let given : packed left asked granted / 256 ≡ granted + asked * 256 = omega arith in
-    let wanted : packed left asked granted / 65536 ≡ asked = omega arith in
-    rw (on, given, wanted, low granted asked g, mod-eq-of-lt a)
+pub movement-back : (left asked granted givenUp : ℕ) → left ≤ 4 → asked < 256 → granted < 256 → givenUp < 256
+    → movementIn (packed left asked granted givenUp) ≡ leftOn left asked granted givenUp
+movement-back left asked granted givenUp l a g u =
+    let on : packed left asked granted givenUp % 256 ≡ left = omega arith in
+    let given : packed left asked granted givenUp / 256 ≡ granted + (asked + givenUp * 256) * 256 = omega arith in
+    let wanted : packed left asked granted givenUp / 65536 ≡ asked + givenUp * 256 = omega arith in
+    let up : packed left asked granted givenUp / 16777216 ≡ givenUp = omega arith in
+    rw (on, given, wanted, up, low granted _ g, low asked _ a, mod-eq-of-lt u)
 
 pub vehicle-back : (v : Vehicle) (second : ℕ) → movementIn second ≡ v .movement → v .form < 65536 → v .sender < 256 → v .heading < 256 → v .class < 256
     → vehicleIn (firstWord v) second ≡ v
@@ -41,8 +43,9 @@ vehicle-back v second moved f s h k =
     let class : firstWord v / 1099511627776 ≡ v .class = omega arith in
     rw (form, sender, heading, met, class, low (v .sender) _ s, low (v .heading) _ h, low (oneIf (v .met)) _ (omega arith), mod-eq-of-lt k, one-back (v .met), moved)
 
-pub left-train : (left : ℕ) {asked granted : ℕ} → 3 ≤ left → Train asked granted ≡ leftOn left asked granted
-left-train zero h = absurd (omega arith)
-left-train (suc zero) h = absurd (omega arith)
-left-train (suc (suc zero)) h = absurd (omega arith)
-left-train (suc (suc (suc n))) h = refl
+pub left-last : (left : ℕ) {asked granted givenUp : ℕ} → 4 ≤ left → LastTrain asked granted givenUp ≡ leftOn left asked granted givenUp
+left-last zero h = absurd (omega arith)
+left-last (suc zero) h = absurd (omega arith)
+left-last (suc (suc zero)) h = absurd (omega arith)
+left-last (suc (suc (suc zero))) h = absurd (omega arith)
+left-last (suc (suc (suc (suc n)))) h = refl

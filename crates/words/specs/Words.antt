@@ -9,7 +9,8 @@
 --   the last 64 | the ring: 32 slots of two words; place i is slot (start + i) % 32
 --
 -- A slot's first word, from its low end: form number (two bytes), sender, heading, met (1 or 0), class (a byte each).
--- Its second word: what the vehicle left on (0 OPEN, 1 THROUGH, 2 RETURN, 3 TRAIN), granted, asked (a byte each). Two zeros are an unused place.
+-- Its second word: what the vehicle left on (0 OPEN, 1 THROUGH, 2 RETURN, 3 TRAIN, 4 a TRAIN endorsed as the last), granted, asked, given up (a byte each). Two zeros
+-- are an unused place.
 use Prim.Native.Nat.{_%_, _*_, _+_, _-_, _/_, _^_, _≤_, min, suc, zero, ℕ}
 use Rattle.working.specs.Reasons.{findOf, mayMeet}
 pub use Rattle.working.specs.Sections.{withClears, withGuest, withOut, withWaiting}
@@ -21,7 +22,7 @@ use Rattle.working.specs.declared.Counts.{Counts}
 use Rattle.working.specs.declared.Desk.{Desk}
 use Rattle.working.specs.declared.Interval.the-variants.{Since, Stopped}
 use Rattle.working.specs.declared.Interval.{Interval}
-use Rattle.working.specs.declared.Movement.the-variants.{Open, Return, Through, Train}
+use Rattle.working.specs.declared.Movement.the-variants.{LastTrain, Open, Return, Through, Train}
 use Rattle.working.specs.declared.Movement.{Movement}
 use Rattle.working.specs.declared.Section.{Section}
 use Rattle.working.specs.declared.Station.the-variants.{A, B}
@@ -72,15 +73,16 @@ wordsFrom i (suc n) w = getD w i 0 ∷ wordsFrom (i + 1) n w
 abbrev pub byteOf : ℕ → ℕ → ℕ
 byteOf word i = word / 256 ^ i % 256
 
--- what a vehicle left on, by number, with asked and granted
-abbrev pub leftOn : ℕ → ℕ → ℕ → Movement
-leftOn zero asked granted = Open asked
-leftOn (suc zero) asked granted = Through
-leftOn (suc (suc zero)) asked granted = Return asked granted
-leftOn (suc (suc (suc n))) asked granted = Train asked granted
+-- what a vehicle left on, by number, with asked, granted and given up
+abbrev pub leftOn : ℕ → ℕ → ℕ → ℕ → Movement
+leftOn zero asked granted givenUp = Open asked
+leftOn (suc zero) asked granted givenUp = Through
+leftOn (suc (suc zero)) asked granted givenUp = Return asked granted
+leftOn (suc (suc (suc zero))) asked granted givenUp = Train asked granted
+leftOn (suc (suc (suc (suc n)))) asked granted givenUp = LastTrain asked granted givenUp
 
 abbrev pub movementIn : ℕ → Movement
-movementIn second = leftOn (second % 256) (byteOf second 2) (byteOf second 1)
+movementIn second = leftOn (second % 256) (byteOf second 2) (byteOf second 1) (byteOf second 3)
 
 abbrev pub vehicleIn : ℕ → ℕ → Vehicle
 vehicleIn first second = record {
@@ -95,14 +97,15 @@ vehicleIn first second = record {
 abbrev pub firstWord : Vehicle → ℕ
 firstWord v = v .form + v .sender * 256 ^ 2 + v .heading * 256 ^ 3 + oneIf (v .met) * 256 ^ 4 + v .class * 256 ^ 5
 
-abbrev pub packed : ℕ → ℕ → ℕ → ℕ
-packed left asked granted = left + granted * 256 + asked * 256 ^ 2
+abbrev pub packed : ℕ → ℕ → ℕ → ℕ → ℕ
+packed left asked granted givenUp = left + granted * 256 + asked * 256 ^ 2 + givenUp * 256 ^ 3
 
 abbrev pub movementWord : Movement → ℕ
-movementWord (Open asked) = packed 0 asked 0
-movementWord Through = packed 1 0 0
-movementWord (Return asked granted) = packed 2 asked granted
-movementWord (Train asked granted) = packed 3 asked granted
+movementWord (Open asked) = packed 0 asked 0 0
+movementWord Through = packed 1 0 0 0
+movementWord (Return asked granted) = packed 2 asked granted 0
+movementWord (Train asked granted) = packed 3 asked granted 0
+movementWord (LastTrain asked granted givenUp) = packed 4 asked granted givenUp
 
 abbrev pub secondWord : Vehicle → ℕ
 secondWord v = movementWord (v .movement)

@@ -25,6 +25,8 @@ const GRANTED: u64 = BYTE;
 
 const ASKED: u64 = GRANTED * BYTE;
 
+const GIVEN_UP: u64 = ASKED * BYTE;
+
 // What a vehicle left on, by number.
 const OPEN: u64 = 0;
 
@@ -33,6 +35,8 @@ const THROUGH: u64 = 1;
 const RETURN: u64 = 2;
 
 const TRAIN: u64 = 3;
+
+const LAST_TRAIN: u64 = 4;
 
 // 1 where a test holds, else 0.
 pub(crate) fn word_if(test: bool) -> u64
@@ -52,23 +56,28 @@ pub(crate) fn first_word(v: Vehicle) -> u64
         + v.class as u64 * CLASS
 }
 
-// The number of what a vehicle left on, granted and asked.
-fn packed(left: u64, asked: u8, granted: u8) -> u64
-    requires { ⌜ left ≤ 3 ⌝ }
-    ensures { λ r. ⌜ (r ≡ packed left asked granted) × (movementIn r ≡ leftOn left asked granted) ⌝ }
+// The number of what a vehicle left on, granted, asked and given up.
+fn packed(left: u64, asked: u8, granted: u8, given_up: u8) -> u64
+    requires { ⌜ left ≤ 4 ⌝ }
+    ensures { λ r. ⌜ (r ≡ packed left asked granted «given_up») × (movementIn r ≡ leftOn left asked granted «given_up») ⌝ }
 {
-    left + granted as u64 * GRANTED + asked as u64 * ASKED
+    left + granted as u64 * GRANTED + asked as u64 * ASKED + given_up as u64 * GIVEN_UP
 }
 
-// What a vehicle left on, granted and asked.
+// What a vehicle left on, with its figures.
 pub(crate) fn second_word(movement: Movement) -> u64
     ensures { λ r. ⌜ (r ≡ movementWord movement) × (movementIn r ≡ movement) ⌝ }
 {
     match movement {
-        Movement::Open { asked } => packed(OPEN, asked, 0),
-        Movement::Through => packed(THROUGH, 0, 0),
-        Movement::Return { asked, granted } => packed(RETURN, asked, granted),
-        Movement::Train { asked, granted } => packed(TRAIN, asked, granted),
+        Movement::Open { asked } => packed(OPEN, asked, 0, 0),
+        Movement::Through => packed(THROUGH, 0, 0, 0),
+        Movement::Return { asked, granted } => packed(RETURN, asked, granted, 0),
+        Movement::Train { asked, granted } => packed(TRAIN, asked, granted, 0),
+        Movement::LastTrain {
+            asked,
+            granted,
+            given_up,
+        } => packed(LAST_TRAIN, asked, granted, given_up),
     }
 }
 
@@ -78,6 +87,7 @@ fn movement_in(second: u64) -> Movement
     let left_on = second % BYTE;
     let granted = (second / GRANTED % BYTE) as u8;
     let asked = (second / ASKED % BYTE) as u8;
+    let given_up = (second / GIVEN_UP % BYTE) as u8;
     if left_on == OPEN {
         return Movement::Open { asked };
     }
@@ -87,7 +97,14 @@ fn movement_in(second: u64) -> Movement
     if left_on == RETURN {
         return Movement::Return { asked, granted };
     }
-    Movement::Train { asked, granted }
+    if left_on == TRAIN {
+        return Movement::Train { asked, granted };
+    }
+    Movement::LastTrain {
+        asked,
+        granted,
+        given_up,
+    }
 }
 
 // The vehicle that two words stand for.

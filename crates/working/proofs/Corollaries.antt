@@ -165,7 +165,7 @@ last-train-owed {s = s} run x there from last =
     let skip = moves-skip x v (k .others) (not-own x v its) in
     let none = moves-none x (k .others) (ordered-far x v (k .others) (not-own x v its) (rw (k .whole) at (well-at s x (good .sound) .order)) .1) in
     let both : Halves (deskOf s x) (deskOf s (otherAt x)) [] (movesOf (otherAt x) (k .others) ++ v .movement ∷ []) =
-        rw (k .whole, skip, none, moves-far x v (k .others) its) at (kept-at x s good) in
+    rw (k .whole, skip, none, moves-far x v (k .others) its) at (kept-at x s good) in
     let is : isLast (v .movement) ≡ true = rw (k .near) at last in
     rw (k .near) (omega (arith, closed (deskOf s x) (deskOf s (otherAt x)) (v .movement) (movesOf (otherAt x) (k .others)) both is, one-train (v .movement) is))
 

@@ -103,6 +103,6 @@ demand3 {l} {s} run = record {
 
     owed : (x : Station)
         → deskOf s x .clears .owes
-          ≡ deskOf s (otherAt x) .clears .holds + deskOf s (otherAt x) .waiting + trainsOf l s (otherAt x) + givenUpBy s (otherAt x) + onTheWayTo s (otherAt x)
+        ≡ deskOf s (otherAt x) .clears .holds + deskOf s (otherAt x) .waiting + trainsOf l s (otherAt x) + givenUpBy s (otherAt x) + onTheWayTo s (otherAt x)
     owed A = omega (arith, k .good .kept .own .sum, spent-told l B (vehiclesOf s) (k .told), carried grantedIn A (vehiclesOf s))
     owed B = omega (arith, k .good .kept .far .sum, spent-told l A (vehiclesOf s) (k .told), carried grantedIn B (vehiclesOf s))

@@ -90,7 +90,7 @@ pub record Demand3 {l : List Done} {s : Section} (run : Run fresh l s) : Type 0 
   -- carry + line clears on the way to the other; T-02: "the sum of clears owed counts those waiting as well", T-03: those given up "are added beside the train"
   pub owed : s .force ≡ true → (x : Station)
       → deskOf s x .clears .owes
-        ≡ deskOf s (otherAt x) .clears .holds + deskOf s (otherAt x) .waiting + trainsOf l s (otherAt x) + givenUpBy s (otherAt x) + onTheWayTo s (otherAt x)
+      ≡ deskOf s (otherAt x) .clears .holds + deskOf s (otherAt x) .waiting + trainsOf l s (otherAt x) + givenUpBy s (otherAt x) + onTheWayTo s (otherAt x)
   -- two neighbours change places: every entry has the same answer, and the section is the same in every figure
   pub swap : (before : List Done) (d e : Done) (after : List Done) (x y : Station) (first second : Act) → l ≡ before ++ d ∷ e ∷ after
       → AcceptedAt d x first → AcceptedAt e y second → (x ≡ y → ⊥) → (ReceivesIt first x (d .answer) second → ⊥)

@@ -1,4 +1,4 @@
--- `clears::train_clears` meets its contract: one line clear less, and a reply taken along answers the enquiry.
+-- `clears::train_clears` meets its contract: the line clears left are put, and a reply taken along answers the enquiry.
 -- Assumes nothing.
 use Rattle.rules.proofs.clears.train_clears.Statement.{statement}
 use Rattle.rules.proofs.clears.train_clears.Tie as tie
@@ -10,5 +10,5 @@ train-clears-spec =
     tie.close
     (tie.spec
     (λ c κs. search needs)
-    (λ c. rw (c .before .lowered .ensures, lt-ltb _ _ (c .if1 .taken)))
-    (λ c. rw (c .before .lowered .ensures, le-ltb _ _ (c .if1 .left))))
+    (λ c. rw (c .before .clears-left .ensures, lt-ltb _ _ (c .if1 .taken)))
+    (λ c. rw (c .before .clears-left .ensures, le-ltb _ _ (c .if1 .left))))

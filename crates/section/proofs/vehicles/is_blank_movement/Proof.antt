@@ -6,5 +6,5 @@ use borrow.Author.Needs.{needs}
 
 pub is-blank-movement-spec : {M : Type 1} → statement M
 is-blank-movement-spec = tie.close (tie.spec
-    (λ c. search needs) (λ c. search needs) (λ c. search needs) (λ c. search needs)
-    (λ c. rw (c .before .movement .given .1)) (λ c. search needs) (λ c. search needs) (λ c. search needs))
+    (λ c. search needs) (λ c. search needs) (λ c. search needs) (λ c. search needs) (λ c. search needs)
+    (λ c. rw (c .before .movement .given .1)) (λ c. search needs) (λ c. search needs) (λ c. search needs) (λ c. search needs))

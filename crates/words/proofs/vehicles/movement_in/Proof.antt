@@ -1,6 +1,6 @@
--- `vehicles::movement_in` meets its contract: the low byte is 0, 1, 2 or more, and the definition goes by it.
+-- `vehicles::movement_in` meets its contract: the low byte is 0, 1, 2, 3 or more, and the definition goes by it.
 -- Assumes nothing.
-use Rattle.words.proofs.Packing.{left-train}
+use Rattle.words.proofs.Packing.{left-last}
 use Rattle.words.proofs.vehicles.movement_in.Statement.{statement}
 use Rattle.words.proofs.vehicles.movement_in.Tie as tie
 use Prim.Native.Nat.{_%_}
@@ -17,8 +17,11 @@ returns-3 : tie.Need-returns-3
 returns-3 c = rw (c .if3 .taken)
 
 returns-4 : tie.Need-returns-4
-returns-4 c = left-train (c .before .before .before .args .second % 256) (omega arith)
+returns-4 c = rw (c .if4 .taken)
+
+returns-5 : tie.Need-returns-5
+returns-5 c = left-last (c .before .before .before .before .args .second % 256) (omega arith)
 
 pub movement-in-spec : {M : Type 1} → statement M
 movement-in-spec =
-    tie.close (tie.spec (λ c. search needs) (λ c. search needs) returns returns-2 returns-3 returns-4)
+    tie.close (tie.spec (λ c. search needs) (λ c. search needs) (λ c. search needs) returns returns-2 returns-3 returns-4 returns-5)

@@ -7,7 +7,7 @@ use borrow.Author.Needs.{needs}
 use native.Mathlib.Omega.{arith}
 
 returns : tie.Need-returns
-returns c = (search needs, movement-back (c .args .left) (c .args .asked) (c .args .granted) (omega arith) (omega arith) (omega arith))
+returns c = (search needs, movement-back (c .args .left) (c .args .asked) (c .args .granted) (c .args .given-up) (omega arith) (omega arith) (omega arith) (omega arith))
 
 pub packed-spec : {M : Type 1} → statement M
-packed-spec = tie.close (tie.spec (λ c. search needs) (λ c. search needs) (λ c. search needs) (λ c. search needs) returns)
+packed-spec = tie.close (tie.spec (λ c. search needs) (λ c. search needs) (λ c. search needs) (λ c. search needs) (λ c. search needs) (λ c. search needs) returns)

@@ -16,6 +16,9 @@ returns-3 c = rw (c .before .before .movement2 .given .1) (c .packed3 .ensures)
 returns-4 : tie.Need-returns-4
 returns-4 c = rw (c .before .before .movement3 .given .1) (c .packed4 .ensures)
 
+returns-5 : tie.Need-returns-5
+returns-5 c = rw (c .before .before .movement4 .given .1) (c .packed5 .ensures)
+
 pub second-word-spec : {M : Type 1} → statement M
 second-word-spec =
     tie.close
@@ -28,7 +31,10 @@ second-word-spec =
     (λ c κs. search needs)
     (λ c. search needs)
     (λ c κs. search needs)
+    (λ c. search needs)
+    (λ c κs. search needs)
     returns
     returns-2
     returns-3
-    returns-4)
+    returns-4
+    returns-5)

@@ -7,7 +7,7 @@ use Rattle.working.specs.declared.Desk.{Desk}
 use Rattle.working.specs.declared.Entry.{Entry}
 use Rattle.working.specs.declared.Interval.the-variants.{Since, Stopped}
 use Rattle.working.specs.declared.Interval.{Interval}
-use Rattle.working.specs.declared.Movement.the-variants.{Open, Return, Through, Train}
+use Rattle.working.specs.declared.Movement.the-variants.{LastTrain, Open, Return, Through, Train}
 use Rattle.working.specs.declared.Movement.{Movement}
 use Rattle.working.specs.declared.Section.{Section}
 use Rattle.working.specs.declared.Vehicle.{Vehicle}
@@ -18,7 +18,7 @@ use mathlib.Core.List.{List, [], _∷_}
 
 -- the bytes of a section, and of the longest head of a case: a section's and two more
 abbrev pub sectionLength : ℕ
-sectionLength = 258
+sectionLength = 282
 
 abbrev pub longestHead : ℕ
 longestHead = sectionLength + 2
@@ -33,14 +33,19 @@ numberAt figures at = byteAt figures at * 256 + byteAt figures (at + 1)
 abbrev pub wideAt : List ℕ → ℕ → ℕ
 wideAt figures at = numberAt figures at * 65536 + numberAt figures (at + 2)
 
--- "kind 1 (0 none, 2 OPEN, 3 THROUGH, 4 RETURN, 5 TRAIN)"; none is the OPEN that asks for nothing
-abbrev pub movementOf : ℕ → ℕ → ℕ → Movement
-movementOf kind asked granted = cond (eqb kind 3) Through (cond (eqb kind 4) (Return asked granted) (cond (eqb kind 5) (Train asked granted) (Open asked)))
+-- "kind 1 (0 none, 2 OPEN, 3 THROUGH, 4 RETURN, 5 TRAIN, 9 LAST TRAIN)"; none is the OPEN that asks for nothing
+abbrev pub movementOf : ℕ → ℕ → ℕ → ℕ → Movement
+movementOf kind asked granted givenUp =
+    cond (eqb kind 3) Through
+    (cond (eqb kind 4) (Return asked granted)
+    (cond (eqb kind 5) (Train asked granted)
+    (cond (eqb kind 9) (LastTrain asked granted givenUp)
+    (Open asked))))
 
--- the nine bytes of a place
+-- the ten bytes of a place
 abbrev pub vehicleAt : List ℕ → ℕ → Vehicle
 vehicleAt figures at = record {
-  movement = movementOf (byteAt figures at) (byteAt figures (at + 1)) (byteAt figures (at + 2));
+  movement = movementOf (byteAt figures at) (byteAt figures (at + 1)) (byteAt figures (at + 2)) (byteAt figures (at + 9));
   sender = byteAt figures (at + 3);
   form = numberAt figures (at + 4);
   heading = byteAt figures (at + 6);
@@ -51,7 +56,7 @@ vehicleAt figures at = record {
 -- so many places, one behind another
 unfoldable pub placesAt : ℕ → List ℕ → ℕ → List Vehicle
 placesAt zero figures at = []
-placesAt (suc count) figures at = vehicleAt figures at ∷ placesAt count figures (at + 9)
+placesAt (suc count) figures at = vehicleAt figures at ∷ placesAt count figures (at + 10)
 
 -- "interval running 1 (0 or 1), its minute 2"
 abbrev pub intervalOf : ℕ → ℕ → Interval
@@ -77,11 +82,11 @@ countsAt figures at = record { a = wideAt figures at; b = wideAt figures (at + 4
 abbrev pub sectionIn : List ℕ → Section
 sectionIn figures = record {
   vehicles = placesAt 24 figures 0;
-  len = byteAt figures 216;
-  force = eqb (byteAt figures 217) 1;
-  refused = countsAt figures 218;
-  a = deskAt figures 230 freshDesk;
-  b = deskAt figures 244 freshDesk;
+  len = byteAt figures 240;
+  force = eqb (byteAt figures 241) 1;
+  refused = countsAt figures 242;
+  a = deskAt figures 254 freshDesk;
+  b = deskAt figures 268 freshDesk;
 }
 
 -- "an entry of 12 bytes (map 1, kind 1, station 1, time 2, view 1, class 1, asked 1, granted 1, sender 1, number 2)"

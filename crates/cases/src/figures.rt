@@ -17,19 +17,19 @@ use working::Section;
 use working::Vehicle;
 
 // Where the figures behind the places begin: vehicles present, in force, refused, and the two desks.
-const PRESENT: usize = 216;
+const PRESENT: usize = 240;
 
-const FORCE: usize = 217;
+const FORCE: usize = 241;
 
-const REFUSED: usize = 218;
+const REFUSED: usize = 242;
 
-const DESK_A: usize = 230;
+const DESK_A: usize = 254;
 
-const DESK_B: usize = 244;
+const DESK_B: usize = 268;
 
 // What a vehicle left on: kind 0, the unused place, is the OPEN that asks for nothing.
-fn movement_in(kind: u8, asked: u8, granted: u8) -> Movement
-    ensures { λ r. ⌜ r ≡ movementOf kind asked granted ⌝ }
+fn movement_in(kind: u8, asked: u8, granted: u8, given_up: u8) -> Movement
+    ensures { λ r. ⌜ r ≡ movementOf kind asked granted «given_up» ⌝ }
 {
     if kind == 3 {
         return Movement::Through;
@@ -40,16 +40,28 @@ fn movement_in(kind: u8, asked: u8, granted: u8) -> Movement
     if kind == 5 {
         return Movement::Train { asked, granted };
     }
+    if kind == 9 {
+        return Movement::LastTrain {
+            asked,
+            granted,
+            given_up,
+        };
+    }
     Movement::Open { asked }
 }
 
-// The nine bytes of a place.
+// The ten bytes of a place.
 fn vehicle_in(figures: &Head, at: usize) -> Vehicle
-    requires { ⌜ at + 9 ≤ longestHead ⌝ }
+    requires { ⌜ at + 10 ≤ longestHead ⌝ }
     ensures { λ r. ⌜ r ≡ vehicleAt (now (figures .entry)) at ⌝ }
 {
     Vehicle {
-        movement: movement_in(figures[at], figures[at + 1], figures[at + 2]),
+        movement: movement_in(
+            figures[at],
+            figures[at + 1],
+            figures[at + 2],
+            figures[at + 9],
+        ),
         sender: figures[at + 3],
         form: number_at(figures, at + 4),
         heading: figures[at + 6],
@@ -65,7 +77,7 @@ fn vehicles_in(figures: &Head) -> [Vehicle; Section::PLACES]
     let mut places = [Vehicle::unused(); Section::PLACES];
     let mut i = 0;
     while i < Section::PLACES {
-        places[i] = vehicle_in(figures, i * 9);
+        places[i] = vehicle_in(figures, i * 10);
         i += 1;
     }
     places
@@ -123,7 +135,7 @@ fn count_in(figures: &Head, at: usize) -> u32
 
 // Entries refused for A, for B, and of no station.
 fn counts_in(figures: &Head) -> Counts
-    ensures { λ r. ⌜ r ≡ countsAt (now (figures .entry)) 218 ⌝ }
+    ensures { λ r. ⌜ r ≡ countsAt (now (figures .entry)) 242 ⌝ }
 {
     Counts {
         a: count_in(figures, REFUSED),
@@ -168,13 +180,18 @@ fn one_if(holds: bool) -> u8 {
     if holds { 1 } else { 0 }
 }
 
-// The first three bytes of a place.
-fn movement_figures(movement: Movement) -> [u8; 3] {
+// The first three bytes of a place, and its last.
+fn movement_figures(movement: Movement) -> [u8; 4] {
     match movement {
-        Movement::Open { asked } => [2, asked, 0],
-        Movement::Through => [3, 0, 0],
-        Movement::Return { asked, granted } => [4, asked, granted],
-        Movement::Train { asked, granted } => [5, asked, granted],
+        Movement::Open { asked } => [2, asked, 0, 0],
+        Movement::Through => [3, 0, 0, 0],
+        Movement::Return { asked, granted } => [4, asked, granted, 0],
+        Movement::Train { asked, granted } => [5, asked, granted, 0],
+        Movement::LastTrain {
+            asked,
+            granted,
+            given_up,
+        } => [9, asked, granted, given_up],
     }
 }
 
@@ -185,7 +202,7 @@ fn is_unused(asked: u8, v: Vehicle) -> bool {
 }
 
 // A vehicle's place; the unused one has kind 0.
-fn vehicle_figures(v: Vehicle) -> [u8; 9] {
+fn vehicle_figures(v: Vehicle) -> [u8; 10] {
     let movement = v.movement;
     let left_on = movement_figures(movement);
     let unused = (left_on[0] == 2) & is_unused(left_on[1], v);
@@ -199,6 +216,7 @@ fn vehicle_figures(v: Vehicle) -> [u8; 9] {
         v.heading,
         one_if(v.met),
         v.class,
+        left_on[3],
     ]
 }
 
@@ -259,7 +277,7 @@ fn put_vehicles(figures: &mut [u8], places: [Vehicle; Section::PLACES])
 {
     let mut i = 0;
     while i < Section::PLACES {
-        put_bytes(figures, i * 9, &vehicle_figures(places[i]));
+        put_bytes(figures, i * 10, &vehicle_figures(places[i]));
         i += 1;
     }
 }

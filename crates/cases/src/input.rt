@@ -7,7 +7,7 @@ ghost use mathlib.Core.Path.{_≡_};
 use libc::STDIN_FILENO;
 
 // The bytes of a section.
-pub(crate) const SECTION_LENGTH: usize = 258;
+pub(crate) const SECTION_LENGTH: usize = 282;
 
 // The longest head, of a step: a section's figures, and the length of the bytes behind them.
 pub(crate) const LONGEST_HEAD: usize = SECTION_LENGTH + 2;

@@ -21,7 +21,7 @@ use Rattle.working.specs.declared.Answer.{Answer}
 use Rattle.working.specs.declared.Clears.{Clears}
 use Rattle.working.specs.declared.Desk.{Desk}
 use Rattle.working.specs.declared.Entry.{Entry}
-use Rattle.working.specs.declared.Movement.the-variants.{Open, Return, Through, Train}
+use Rattle.working.specs.declared.Movement.the-variants.{LastTrain, Open, Return, Through, Train}
 use Rattle.working.specs.declared.Movement.{Movement}
 use Rattle.working.specs.declared.Refusal.the-variants.{MayNotMeet, NotInForce}
 use Rattle.working.specs.declared.Refusal.{Refusal}
@@ -77,14 +77,14 @@ abbrev pub ownTests : Act → Station → Desk → ℕ → Vehicle → List Test
 ownTests (acts.Open view class asked) x d time v = openTests d ++ lastTests d time
 ownTests (acts.Through view) x d time v = openTests d ++ lastTests d time
 ownTests (acts.Return asked granted) x d time v = returnTests d granted ++ lastTests d time
-ownTests (acts.Train view asked granted) x d time v = trainTests d granted ++ lastTests d time
+ownTests (acts.Train endorsed view asked granted) x d time v = trainTests d granted ++ lastTests d time
 ownTests (acts.Receive sender form) x d time v = receiveTests x sender form v
 
 tests-are : (act : Act) (x : Station) (force : Bool) (d : Desk) (time : ℕ) (v : Vehicle) → testsOf act x force d time v ≡ stationTests force d time ++ ownTests act x d time v
 tests-are (acts.Open view class asked) x force d time v = refl
 tests-are (acts.Through view) x force d time v = refl
 tests-are (acts.Return asked granted) x force d time v = refl
-tests-are (acts.Train view asked granted) x force d time v = refl
+tests-are (acts.Train endorsed view asked granted) x force d time v = refl
 tests-are (acts.Receive sender form) x force d time v = refl
 
 -- what the code looks at first, by its own names: the station, its desk, whether the working is in force, and what 7 and 9 come to
@@ -213,6 +213,10 @@ module _ {d e : Desk} {time : ℕ} {m : Movement} (was : d ≡ e) where
   pub other-train : (class : ℕ) {asked granted owes : ℕ} {brought : Clears} → m ≡ Train asked granted → owes ≡ d .clears .owes - 1
       → brought ≡ broughtClears (d .clears) asked owes → withClears brought (withReceipt time 0 e) ≡ otherDesk e time class m
   other-train class left less is = rw (left, is, less, was)
+
+  pub other-last : (class : ℕ) {asked granted givenUp : ℕ} {brought : Clears} → m ≡ LastTrain asked granted givenUp → brought ≡ broughtClears (d .clears) asked 0
+      → withClears brought (withReceipt time 0 e) ≡ otherDesk e time class m
+  other-last class left is = rw (left, is, was)
 
 -- ---- BEGIN and RESUME: refused by the first of their tests that holds, or all is made anew, in force or not
 

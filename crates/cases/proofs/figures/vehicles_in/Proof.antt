@@ -12,7 +12,7 @@ use mathlib.Core.Path.{_≡_, sym}
 use native.Mathlib.Omega.{arith}
 
 abbrev Inv-loop : tie.InvT-loop
-Inv-loop figures places₀ i₀ places i = (i ≤ 24) × (length places ≡ 24) × ((k : ℕ) → k < i → vehicleAt figures (k * 9) ≡ getD places k unused)
+Inv-loop figures places₀ i₀ places i = (i ≤ 24) × (length places ≡ 24) × ((k : ℕ) → k < i → vehicleAt figures (k * 10) ≡ getD places k unused)
 
 abbrev μ-loop : tie.MeasureT-loop
 μ-loop figures places₀ i₀ places i = 24 - i

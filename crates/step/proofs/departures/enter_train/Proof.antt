@@ -1,4 +1,4 @@
--- `departures::enter_train` meets its contract: the tests are the definition's, and where none holds the train leaves on a line clear.
+-- `departures::enter_train` meets its contract: the tests are the definition's, and where none holds the train leaves on a line clear, with the others where it is endorsed as the last.
 -- Assumes nothing.
 use Rattle.step.proofs.Becoming.{Looked, Passed, act-done, first-refused, left-with, look, may-leave, own-refused, pass}
 use Rattle.step.proofs.departures.enter_train.Statement.{statement}
@@ -25,7 +25,7 @@ abbrev first-of : tie.After-departure-verdict → tie.After-station-verdict
 first-of c = c .before .before .before .before
 
 abbrev passed : (c : tie.After-departure-verdict) → let a = start-of (first-of c) .args in
-    Passed (a .words .now) (a .e) (Train (viewOf (a .e .view)) (a .e .asked) (a .e .granted))
+    Passed (a .words .now) (a .e) (Train (a .endorsed) (viewOf (a .e .view)) (a .e .asked) (a .e .granted))
 passed c =
     let l = looked (first-of c) in
     pass l (c .before .before .enum-told .given .1) (c .departure-verdict .ensures (trainTests (l .desk) _) (c .before .train-verdict .ensures))
@@ -36,12 +36,13 @@ departs c =
     let put = forms .before in
     let clears = put .before in
     let left = clears .before .before in
-    let told = left .before .before .before .before in
+    let movement = left .before .before in
+    let told = movement .before .before .before in
     let p = passed (told .before .before) in
     act-done p (told .enum-told2 .given .1)
     (record {
       answer = rw (c .train-speed .ensures, c .before .view-of .ensures, forms .clear-forms .ensures, left .depart .ensures .0);
-      words = rw (← clears .train-clears .ensures) (left-with (p .looked) (left .depart .ensures .1) (withClears (clears .train-clears .result)) (put .put-clears .ensures));
+      words = rw (← clears .train-clears .ensures) (left-with (p .looked) (rw (movement .train-movement .ensures) at (left .depart .ensures .1)) (withClears (clears .train-clears .result)) (put .put-clears .ensures));
     })
 
 pub enter-train-spec : {M : Type 1} → statement M
@@ -53,6 +54,7 @@ enter-train-spec =
     (λ c. search needs) (λ c κs. search needs) (λ c κs. search needs) (λ c. search needs) (λ c κs. search needs)
     (λ c. let told = c .before .before .before in own-refused (passed (told .before .before)) (told .own .given .1) (c .refuse2 .ensures))
     (λ c. search needs)
-    (λ c κs. let told = c .before .before .before in let p = passed (told .before .before) in may-leave p (trainTests (p .looked .desk) _) refl (told .enum-told2 .given .1))
+    (λ c κs. search needs)
+    (λ c κs. let told = c .before .before .before .before in let p = passed (told .before .before) in may-leave p (trainTests (p .looked .desk) _) refl (told .enum-told2 .given .1))
     (λ c κs. search needs) (λ c κs. search needs) (λ c κs. search needs) (λ c κs. search needs) (λ c κs. search needs)
     departs)

@@ -1,6 +1,6 @@
 -- `receipts::arrive_other` meets its contract: none counted, the interval stopped, and then what the vehicle brings by what it left on.
 -- Assumes nothing.
-use Rattle.step.proofs.Becoming.{desk-is, other-open, other-return, other-train}
+use Rattle.step.proofs.Becoming.{desk-is, other-last, other-open, other-return, other-train}
 use Rattle.step.proofs.receipts.arrive_other.Statement.{statement}
 use Rattle.step.proofs.receipts.arrive_other.Tie as tie
 use Rattle.words.proofs.Becoming.{desk-then}
@@ -61,6 +61,17 @@ returns-4 c =
     desk-is x (other-train (start .pre) (start .args .v .class) (told .movement3 .given .1) (less .lowered .ensures) (clears .brought-clears2 .ensures))
     (desk-then x (receipt-of put) (withClears (clears .brought-clears2 .result)) (put .put-receipt .ensures) (c .put-clears3 .ensures))
 
+-- a TRAIN endorsed as the last: none is owed
+returns-5 : tie.Need-returns-5
+returns-5 c =
+    let clears = c .before in
+    let told = clears .before .before .before in
+    let put = told .before .before in
+    let start = start-of put in
+    let x = start .args .at in
+    desk-is x (other-last (start .pre) (start .args .v .class) (told .movement4 .given .1) (clears .brought-clears3 .ensures))
+    (desk-then x (receipt-of put) (withClears (clears .brought-clears3 .result)) (put .put-receipt .ensures) (c .put-clears4 .ensures))
+
 pub arrive-other-spec : {M : Type 1} → statement M
 arrive-other-spec =
     tie.close
@@ -68,4 +79,5 @@ arrive-other-spec =
     (λ c κs. search needs) (λ c. search needs) (λ c κs. search needs) (λ c κs. search needs) (λ c κs. search needs) (λ c. search needs)
     (λ c. search needs) (λ c κs. search needs) (λ c κs. search needs) (λ c κs. search needs)
     (λ c. search needs) (λ c κs. search needs) (λ c κs. search needs) (λ c κs. search needs)
-    returns returns-2 returns-3 returns-4)
+    (λ c. search needs) (λ c κs. search needs) (λ c κs. search needs)
+    returns returns-2 returns-3 returns-4 returns-5)

@@ -35,9 +35,12 @@ returns-3 c = absurd (false≢true (sym (ap isOpener (c .enum-told3 .given .1)) 
 returns-4 : tie.Need-returns-4
 returns-4 c = absurd (false≢true (sym (ap isOpener (c .enum-told4 .given .1)) ∙ start-of (c .before .before) .pre .1))
 
+returns-5 : tie.Need-returns-5
+returns-5 c = absurd (false≢true (sym (ap isOpener (c .enum-told5 .given .1)) ∙ start-of (c .before .before) .pre .1))
+
 pub arrive-own-spec : {M : Type 1} → statement M
 arrive-own-spec =
     tie.close
     (tie.spec
     (λ c κs. search needs) (λ c κs. search needs) (λ c. search needs) (λ c κs. search needs) (λ c. search needs) (λ c. search needs) (λ c. search needs)
-    returns returns-2 returns-3 returns-4)
+    (λ c. search needs) returns returns-2 returns-3 returns-4 returns-5)

@@ -274,6 +274,63 @@ fn line_clears_waiting_by_hand() {
 }
 
 #[test]
+fn the_last_train_by_hand() {
+    // A holds 8 and has been asked for 2; its train of kind 9 grants 2.
+    let at_b = (DESK_B, &[0, 40, 0, 3, 2, 1, 0, 40, 0, 0, 0, 6, 7, 5][..]);
+    let at_a = |figures: &'static [u8]| (DESK_A, figures);
+    let before = figures(&[
+        (IN_FORCE, &[1]),
+        at_a(&[0, 9, 0, 6, 0, 0, 0, 0, 0, 0, 2, 8]),
+        at_b,
+    ]);
+    let away = figures(&[
+        (0, &[9, 0, 2, 1, 0, 7, 2, 0, 0, 7]),
+        (PRESENT, &[1, 1]),
+        at_a(&[0, 10, 0, 7, 1, 1, 0, 10, 0, 0, 0, 0, 2]),
+        at_b,
+    ]);
+    let last_train = [0x4F, 9, 1, 0, 10, 3, 2];
+    // 8, 32, 128 and 4: UP, at the booked speed, with a reply.
+    expect_step(&before, &last_train, "ok 7 172 B", &away);
+    // B owes 7 and has 5 waiting. The two take their place and are held.
+    let received = figures(&[
+        (IN_FORCE, &[1]),
+        at_a(&[0, 10, 0, 7, 1, 1, 0, 10, 0, 0, 0, 0, 2]),
+        (DESK_B, &[0, 50, 0, 3, 0, 0, 0, 0, 0, 0, 0, 2]),
+    ]);
+    let receive = [0x87, 6, 2, 0, 50, 1, 0, 7];
+    expect_step(&away, &receive, "ok 0 0 -", &received);
+    // A may not have it back, and 8 given up are one too many.
+    let mut refused = away;
+    refused[FOR_A + 3] = 1;
+    expect_step(&away, &[0x87, 6, 1, 0, 50, 1, 0, 7], "no 21", &refused);
+    let mut eight = away;
+    eight[9] = 8;
+    expect_step(&eight, &receive, "no 5", &eight);
+    // A kind behind the last is none; it is counted for no station.
+    let mut none = before;
+    none[OF_NONE + 3] = 1;
+    expect_step(&before, &[0x4F, 10, 1, 0, 10, 3, 2], "no 2", &none);
+}
+
+#[test]
+fn sections_have_every_number_of_line_clears_given_up_by_either_station() {
+    for station in Station::BOTH {
+        let mut given_up = BTreeSet::new();
+        for case in CASES.iter() {
+            if let Case::Step { section, .. } = case {
+                let last = section
+                    .sent_by(station)
+                    .filter(|vehicle| vehicle.left_on == Some(Kind::LastTrain));
+                given_up.extend(last.map(|vehicle| vehicle.given_up));
+            }
+        }
+        let expected: BTreeSet<u8> = (0..=8).chain([u8::MAX]).collect();
+        assert_eq!(given_up, expected);
+    }
+}
+
+#[test]
 fn sections_have_line_clears_waiting_at_either_station() {
     for station in Station::BOTH {
         let waiting: BTreeSet<u8> = CASES

@@ -8,6 +8,7 @@
 //! step of this crate.
 
 mod counts;
+mod given_up;
 mod logs;
 mod positions;
 mod sections;

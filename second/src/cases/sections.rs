@@ -3,7 +3,7 @@
 use std::collections::BTreeMap;
 
 use super::counts::{self, DISTINCT};
-use super::{waiting, Case, LONGEST, NO_ENTRIES};
+use super::{given_up, waiting, Case, LONGEST, NO_ENTRIES};
 use crate::entry::{decode, Entry, Kind};
 use crate::generator::{any_section, bytes_of, Generator, Options};
 use crate::random::Random;
@@ -40,6 +40,7 @@ pub(super) fn cases() -> Vec<Case> {
     handed.extend(desks_at_their_limits());
     handed.extend(receipts());
     handed.extend(waiting::handed());
+    handed.extend(given_up::handed());
     handed.extend(meetings());
     handed.extend(counts::handed());
     handed.extend(edges());
@@ -91,7 +92,7 @@ pub(super) fn begun() -> Section {
     }
 }
 
-fn put_vehicles(section: &mut Section, vehicles: &[Vehicle]) {
+pub(super) fn put_vehicles(section: &mut Section, vehicles: &[Vehicle]) {
     section.places[..vehicles.len()].copy_from_slice(vehicles);
     section.present = vehicles.len();
 }

@@ -1,23 +1,37 @@
 //! The two editions of the step, and the places where they differ.
 //!
 //! Request T-02 promises that lists once accepted throughout are answered as
-//! before. To hold the step to that, document 01's own step is kept beside
-//! today's. Only tests and walks use it.
+//! before, and T-03 leaves that promise as it is. To hold the step to it, document
+//! 01's own step is kept beside today's. Only tests and walks use it.
 
+use crate::entry::{bit, decode, Entry, Kind};
+use crate::refusal::Refusal;
 use crate::section::{Desk, Vehicle};
 
 /// By which document a step answers.
 #[derive(Clone, Copy, Debug, Default, PartialEq, Eq, Hash)]
 pub enum Edition {
-    /// Document 01 with request T-01 and without T-02. Its section has no line
-    /// clears waiting: from the fresh section on, that figure stays 0.
+    /// Document 01 with request T-01 and without T-02 and T-03. Its section has no
+    /// line clears waiting and none given up: from the fresh section on, these
+    /// figures stay 0.
     Document01,
-    /// Document 01 with requests T-01 and T-02.
+    /// Document 01 with requests T-01, T-02 and T-03.
     #[default]
     Today,
 }
 
 impl Edition {
+    /// Reads the entry at the start of `bytes`. To document 01 kind 9 is none, so a
+    /// whole entry of that kind is 2, whatever else is right or wrong with it.
+    pub(crate) fn read(self, bytes: &[u8]) -> Result<Entry, Refusal> {
+        let read = decode(bytes);
+        let cut = read == Err(Refusal::Cut);
+        if self == Edition::Document01 && !cut && shows_a_last_train(bytes) {
+            return Err(Refusal::NoKind);
+        }
+        read
+    }
+
     /// Whether a TRAIN that leaves this desk may carry a grant, however small.
     pub(crate) fn lets_a_train_grant(self, desk: &Desk) -> bool {
         match self {
@@ -49,10 +63,15 @@ impl Edition {
     }
 }
 
+/// Whether the kind is 9, whether or not the rest is an entry.
+fn shows_a_last_train(bytes: &[u8]) -> bool {
+    let last_train = Kind::LastTrain.number();
+    matches!(bytes, &[map, kind, ..] if map & bit::KIND != 0 && kind == last_train)
+}
+
 #[cfg(test)]
 mod tests {
     use super::*;
-    use crate::entry::Kind;
 
     /// Holds, owes and waiting after line clears were taken.
     fn taken(edition: Edition, kind: Kind, granted: u8, before: [u8; 3]) -> [u8; 3] {
@@ -73,6 +92,27 @@ mod tests {
     }
 
     #[test]
+    fn document_01_has_no_kind_9_whatever_else_stands_in_a_whole_entry() {
+        let both = |bytes: &[u8]| {
+            [Edition::Document01, Edition::Today]
+                .map(|edition| edition.read(bytes).map_or_else(Refusal::number, |_| 0))
+        };
+        // Right, with another map, with a field out of its range.
+        assert_eq!(both(&[0x0F, 9, 1, 0, 0, 1]), [2, 0]);
+        assert_eq!(both(&[0x01, 9]), [2, 3]);
+        assert_eq!(both(&[0x0F, 9, 1, 0, 0, 4]), [2, 4]);
+        // What is not whole is 1 before its kind is looked at.
+        assert_eq!(both(&[]), [1, 1]);
+        assert_eq!(both(&[0x0F]), [1, 1]);
+        assert_eq!(both(&[0x0F, 9, 1, 0, 0]), [1, 1]);
+        // Another kind is read alike, also where its station is 9.
+        assert_eq!(both(&[0x0F, 5, 1, 0, 0, 1]), [0, 0]);
+        assert_eq!(both(&[0x0F, 10, 1, 0, 0, 1]), [2, 2]);
+        assert_eq!(both(&[0x02, 9]), [2, 2]);
+        assert_eq!(both(&[0x83, 7, 9, 1, 0, 1]), [4, 4]);
+    }
+
+    #[test]
     fn document_01_sets_holds_to_granted_on_a_line_clear_only() {
         for kind in [Kind::Return, Kind::Train] {
             for owes in [0, 1] {
@@ -89,7 +129,7 @@ mod tests {
 
     #[test]
     fn today_a_grant_replaces_what_waits_and_moves_where_none_is_owed() {
-        for kind in [Kind::Return, Kind::Train] {
+        for kind in [Kind::Return, Kind::Train, Kind::LastTrain] {
             let taken = |granted, before| taken(Edition::Today, kind, granted, before);
             assert_eq!(taken(3, [5, 1, 0]), [5, 1, 3]);
             assert_eq!(taken(3, [5, 1, 4]), [5, 1, 3]);
@@ -100,7 +140,7 @@ mod tests {
 
     #[test]
     fn today_a_receipt_without_a_grant_moves_what_waits_or_nothing() {
-        for kind in [Kind::Open, Kind::Through, Kind::Return, Kind::Train] {
+        for kind in Kind::ALL.into_iter().filter(|kind| kind.is_departure()) {
             let taken = |before| taken(Edition::Today, kind, 0, before);
             assert_eq!(taken([5, 0, 0]), [5, 0, 0]);
             assert_eq!(taken([5, 1, 0]), [5, 1, 0]);

@@ -8,8 +8,8 @@ use crate::entry::Kind;
 use crate::section::{Desk, Refused, Section, Vehicle};
 
 /// The bytes of one place: kind, asked, granted, sender, form number (2),
-/// heading, met, class.
-const PLACE_LENGTH: usize = 9;
+/// heading, met, class, given up.
+const PLACE_LENGTH: usize = 10;
 
 /// The bytes of one desk: clock (2), last form number (2), sent, interval
 /// running, its minute (2), out, guest, asked, holds, owes, waiting.
@@ -41,7 +41,8 @@ impl Section {
     /// None where they have no room for it: more than 255 vehicles; a vehicle
     /// that left on something other than a departure; line clears on an OPEN or
     /// where there is no kind, and messages on a THROUGH or where there is no
-    /// kind; and an OPEN with 0 in every figure, which stands for no vehicle.
+    /// kind; line clears given up on anything but a LAST TRAIN; and an OPEN with 0
+    /// in every figure, which stands for no vehicle.
     #[must_use]
     pub fn figures(&self) -> Option<Figures> {
         let mut bytes = Vec::with_capacity(FIGURES_LENGTH);
@@ -66,18 +67,23 @@ impl Section {
             refused: rest.refused(),
             desks: std::array::from_fn(|_| rest.desk()),
         };
-        // A flag of 2, a kind that is none of the four or the minute of an
+        // A flag of 2, a kind that is no departure or the minute of an
         // interval that does not run has not found its way into the section.
         (section.figures().as_ref() == Some(figures)).then_some(section)
     }
 }
 
 fn place_figures(vehicle: &Vehicle) -> Option<[u8; PLACE_LENGTH]> {
+    let none_given_up = vehicle.given_up == 0;
+    let no_messages = vehicle.asked == 0 && vehicle.granted == 0;
     let has_room = match vehicle.left_on {
-        None | Some(Kind::Through) => vehicle.asked == 0 && vehicle.granted == 0,
-        Some(Kind::Open) => vehicle.granted == 0 && !is_zero_but_for_its_kind(vehicle),
-        Some(Kind::Return | Kind::Train) => true,
-        Some(_) => false,
+        None | Some(Kind::Through) => no_messages && none_given_up,
+        Some(Kind::Open) => {
+            vehicle.granted == 0 && none_given_up && !is_zero_but_for_its_kind(vehicle)
+        }
+        Some(Kind::Return | Kind::Train) => none_given_up,
+        Some(Kind::LastTrain) => true,
+        Some(Kind::Begin | Kind::Receive | Kind::Meet | Kind::Resume) => false,
     };
     let [form_high, form_low] = vehicle.form.to_be_bytes();
     has_room.then_some([
@@ -90,6 +96,7 @@ fn place_figures(vehicle: &Vehicle) -> Option<[u8; PLACE_LENGTH]> {
         vehicle.heading,
         vehicle.met.into(),
         vehicle.class,
+        vehicle.given_up,
     ])
 }
 
@@ -148,6 +155,7 @@ impl Rest<'_> {
             class: self.byte(),
             asked,
             granted,
+            given_up: self.byte(),
         }
     }
 
@@ -213,22 +221,22 @@ mod tests {
     use super::*;
 
     #[test]
-    fn there_are_258_of_them() {
-        assert_eq!(FIGURES_LENGTH, 258);
-        assert_eq!(Section::fresh().figures(), Some([0; 258]));
-        assert_eq!(Section::from_figures(&[0; 258]), Some(Section::fresh()));
+    fn there_are_282_of_them() {
+        assert_eq!(FIGURES_LENGTH, 282);
+        assert_eq!(Section::fresh().figures(), Some([0; 282]));
+        assert_eq!(Section::from_figures(&[0; 282]), Some(Section::fresh()));
     }
 
     #[test]
     fn the_digest_is_taken_figure_by_figure() {
         let mut figures = [0; FIGURES_LENGTH];
         assert_eq!(digest(&figures), 0);
-        figures[257] = 5;
+        figures[281] = 5;
         assert_eq!(digest(&figures), 5);
-        figures[256] = 2;
+        figures[280] = 2;
         assert_eq!(digest(&figures), 2 * 31 + 5);
         // 31 to the seventh is 27,512,614,111, which is over the largest.
-        figures[250] = 1;
+        figures[274] = 1;
         let exact = 27_512_614_111_u64 + 2 * 31 + 5;
         assert_eq!(u64::from(digest(&figures)), exact % 4_294_967_296);
     }

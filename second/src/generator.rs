@@ -59,13 +59,13 @@ pub fn log(seed: u64, entries: usize, options: Options) -> Vec<u8> {
 
 /// What the traffic tends to for a while. The figures are weights, by the
 /// number of the kind, with which an acceptable entry of that kind is taken.
-type Mood = [u32; 9];
+type Mood = [u32; 10];
 
-const EVEN: Mood = [0, 10, 6, 6, 8, 10, 14, 2, 1];
-const FLOW: Mood = [0, 10, 8, 0, 30, 24, 30, 1, 0];
-const FILLING: Mood = [0, 10, 3, 30, 3, 16, 2, 1, 0];
-const MEETING: Mood = [0, 10, 16, 10, 2, 2, 8, 6, 0];
-const DRAINING: Mood = [0, 10, 0, 0, 3, 0, 20, 2, 3];
+const EVEN: Mood = [0, 10, 6, 6, 8, 10, 14, 2, 1, 4];
+const FLOW: Mood = [0, 10, 8, 0, 30, 24, 30, 1, 0, 4];
+const FILLING: Mood = [0, 10, 3, 30, 3, 16, 2, 1, 0, 2];
+const MEETING: Mood = [0, 10, 16, 10, 2, 2, 8, 6, 0, 1];
+const DRAINING: Mood = [0, 10, 0, 0, 3, 0, 20, 2, 3, 1];
 const MOODS: [Mood; 6] = [EVEN, FLOW, FLOW, FILLING, MEETING, DRAINING];
 
 /// The clock from which the traffic is brought to an end, so that a new
@@ -173,7 +173,7 @@ impl Generator {
     /// An entry that the section accepts, chosen by the mood of the traffic.
     fn likely_entry(&mut self) -> Entry {
         self.change_mood();
-        let mut candidates = Vec::with_capacity(16);
+        let mut candidates = Vec::with_capacity(2 * Kind::ALL.len());
         for kind in Kind::ALL {
             for station in Station::BOTH {
                 candidates.extend(self.candidate(kind, station));
@@ -303,8 +303,8 @@ impl Generator {
             }
             _ => {
                 let asked = self.perhaps_some_trains();
-                let granted = self.reply_by_train(&desk);
-                Entry::train(station, time, view, asked, granted)
+                let granted = self.reply_by_train(&desk, kind);
+                train_of(kind, station, time, view, asked, granted)
             }
         }
     }
@@ -357,8 +357,8 @@ impl Generator {
     /// A reply as the next train of this desk may carry it. Half of the trains that
     /// leave line clears behind go without, so that the reply rides with any train
     /// of a series and not mostly with the first.
-    fn reply_by_train(&mut self, desk: &Desk) -> u8 {
-        let ahead = desk.holds > 1;
+    fn reply_by_train(&mut self, desk: &Desk, kind: Kind) -> u8 {
+        let ahead = kind == Kind::Train && desk.holds > 1;
         if !self.options.edition.lets_a_train_grant(desk) || (ahead && self.random.chance(50)) {
             return 0;
         }
@@ -384,7 +384,7 @@ impl Generator {
                 spoiled.push(Entry { time, ..entry });
             }
         }
-        if entry.kind == Kind::Return.number() || entry.kind == Kind::Train.number() {
+        if kind_may_grant(entry.kind) {
             // More than was asked, or a grant by a station that may owe.
             for granted in [
                 (desk.asked + 1).min(Section::MOST_CLEARS),
@@ -440,12 +440,12 @@ impl Generator {
                 let granted = self.perhaps_some_trains();
                 Entry::send_back(station, time, asked, granted)
             }
-            Kind::Train => {
+            kind @ (Kind::Train | Kind::LastTrain) => {
                 let time = self.departure_time(&self.desk(station));
                 let view = self.random.small(1, 3);
                 let asked = self.perhaps_some_trains();
                 let granted = self.perhaps_some_trains();
-                Entry::train(station, time, view, asked, granted)
+                train_of(kind, station, time, view, asked, granted)
             }
             kind => self.departure(kind, station),
         }
@@ -460,7 +460,8 @@ impl Generator {
         if self.random.chance(30) {
             return None;
         }
-        let kind = self.random.pick(&[Kind::Open, Kind::Through, Kind::Train]);
+        let kinds = [Kind::Open, Kind::Through, Kind::Train, Kind::LastTrain];
+        let kind = self.random.pick(&kinds);
         Some(self.departure(kind, station))
     }
 
@@ -506,7 +507,7 @@ impl Generator {
     fn with_another_kind(&mut self) -> Vec<u8> {
         let mut bytes = bytes_of(&self.blind_entry());
         let other_kind = self.random.byte();
-        bytes[1] = self.random.pick(&[0, 9, u8::MAX, other_kind]);
+        bytes[1] = self.random.pick(&[0, 10, u8::MAX, other_kind]);
         bytes
     }
 
@@ -579,6 +580,19 @@ impl Generator {
         debug_assert!(answer.is_ok(), "{entry:?}: {answer:?}");
         log.extend(bytes);
     }
+}
+
+/// A TRAIN or a LAST TRAIN, by its kind.
+fn train_of(kind: Kind, station: Station, time: u16, view: u8, asked: u8, granted: u8) -> Entry {
+    match kind {
+        Kind::LastTrain => Entry::last_train(station, time, view, asked, granted),
+        _ => Entry::train(station, time, view, asked, granted),
+    }
+}
+
+/// Whether the map of the kind with this number may have granted.
+fn kind_may_grant(number: u8) -> bool {
+    Kind::from_number(number).is_some_and(|kind| kind.may() & bit::GRANTED != 0)
 }
 
 fn just_before_interval_ends(desk: &Desk) -> u16 {
@@ -696,6 +710,7 @@ fn any_vehicle(random: &mut Random, sender: Station, form: u16) -> Vehicle {
         Kind::Through,
         Kind::Return,
         Kind::Train,
+        Kind::LastTrain,
     ]);
     let met = matches!(kind, Kind::Open | Kind::Through) && random.chance(40);
     let (asked, granted) = match kind {
@@ -720,6 +735,10 @@ fn any_vehicle(random: &mut Random, sender: Station, form: u16) -> Vehicle {
         },
         asked,
         granted,
+        given_up: match kind {
+            Kind::LastTrain => random.small(0, Section::MOST_GIVEN_UP),
+            _ => 0,
+        },
     }
 }
 

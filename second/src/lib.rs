@@ -1,7 +1,7 @@
 //! Two stations and the single line section between them, worked under total
 //! failure of communication: a second reading of the document and of requests
-//! T-01 and T-02, written from them alone, so that the first can be compared
-//! with it.
+//! T-01, T-02 and T-03, written from them alone, so that the first can be
+//! compared with it.
 //!
 //! * [`decode`] and [`encode`] turn bytes into an [`Entry`] and back,
 //! * [`Section`] is all that is held, and [`Section::is_well_made`] tests it,

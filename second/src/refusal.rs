@@ -8,7 +8,7 @@ use std::fmt;
 pub enum Refusal {
     /// The bytes end inside an entry, or there are none.
     Cut = 1,
-    /// The map has no kind, or the kind is not 1 to 8.
+    /// The map has no kind, or the kind is not 1 to 9.
     NoKind = 2,
     /// The map is not one of the kind's maps.
     MapNotOfKind = 3,

@@ -103,7 +103,7 @@ impl Desk {
 /// default, in which everything is zero or none.
 #[derive(Clone, Copy, Debug, Default, PartialEq, Eq, Hash)]
 pub struct Vehicle {
-    /// OPEN, THROUGH, RETURN or TRAIN.
+    /// OPEN, THROUGH, RETURN, TRAIN or LAST TRAIN.
     pub left_on: Option<Kind>,
     /// The station that sent it, 1 or 2.
     pub sender: u8,
@@ -119,6 +119,9 @@ pub struct Vehicle {
     pub asked: u8,
     /// Line clears it carries, 0 for none.
     pub granted: u8,
+    /// Line clears that its sender gave up with it, 0 to 7; 0 on all but a LAST
+    /// TRAIN.
+    pub given_up: u8,
 }
 
 impl Vehicle {
@@ -159,13 +162,14 @@ impl Vehicle {
             && (self.met || heading == sender.other())
             && self.class_fits(kind)
             && self.messages_fit(kind)
+            && self.given_up_fits(kind)
     }
 
     fn class_fits(&self, kind: Kind) -> bool {
         match kind {
             Kind::Open | Kind::Return => (1..=Section::MOST_CLASSES).contains(&self.class),
             Kind::Through => self.class == 1,
-            Kind::Train => self.class == 0,
+            Kind::Train | Kind::LastTrain => self.class == 0,
             Kind::Begin | Kind::Receive | Kind::Meet | Kind::Resume => false,
         }
     }
@@ -176,6 +180,13 @@ impl Vehicle {
             Kind::Open => in_range && self.asked >= 1 && self.granted == 0,
             Kind::Through => self.asked == 0 && self.granted == 0,
             _ => in_range,
+        }
+    }
+
+    fn given_up_fits(&self, kind: Kind) -> bool {
+        match kind {
+            Kind::LastTrain => self.given_up <= Section::MOST_GIVEN_UP,
+            _ => self.given_up == 0,
         }
     }
 }
@@ -249,6 +260,8 @@ impl Section {
     pub const LAST_FORM: u16 = 9_999;
     /// Line clears, or trains enquired for, at one time.
     pub const MOST_CLEARS: u8 = 8;
+    /// Line clears given up with one train, which itself takes one of those held.
+    pub const MOST_GIVEN_UP: u8 = Section::MOST_CLEARS - 1;
     /// Classes of opener.
     pub const MOST_CLASSES: u8 = 5;
 

@@ -6,17 +6,18 @@
 //! * two vehicles heading towards one another both left on T/B 602 at 15 km/h
 //!   or less, at the end of every list;
 //! * in force, the line clears owed by a station are those the other holds, those
-//!   waiting there, the other's trains in the section and the line clears on the
-//!   way to the other;
+//!   waiting there, the other's trains in the section, the line clears given up
+//!   with these, and the line clears on the way to the other;
 //! * each refused step is counted once, for its station or as of none;
 //! * two neighbours that are accepted, of different stations, no MEET, the
 //!   second not receiving what the first sent, may change places: every answer
 //!   and every figure of the last section, the three counts among them, stay;
 //! * as long as document 01's own step has refused none of a list, every answer
-//!   and every section is as that step gives it, with no line clear waiting.
+//!   and every section is as that step gives it, with no line clear waiting and
+//!   none given up.
 //!
-//! What a vehicle left on is looked up in the list of entries and answers and
-//! not in the vehicle's own record. Every state of a walk is the end of a list,
+//! What a vehicle left on, and so whether it is a train, is looked up in the list
+//! of entries and answers and not in the vehicle's own record. Every state of a walk is the end of a list,
 //! so the first three claims are tested after every step.
 
 use std::fmt;
@@ -63,6 +64,11 @@ impl Step {
         let kind = Kind::from_number(entry.kind)?;
         Some((kind, entry, self.answer.as_ref().ok()?))
     }
+
+    /// Whether a train endorsed as the last left with it.
+    fn is_last_train(&self) -> bool {
+        matches!(self.accepted(), Some((Kind::LastTrain, _, _)))
+    }
 }
 
 /// A claim that did not hold, in words.
@@ -92,8 +98,12 @@ pub struct Tally {
     pub owing_states: u64,
     /// States in which line clears were waiting.
     pub waiting_states: u64,
+    /// States in which line clears given up stood in the sum of those owed.
+    pub given_up_states: u64,
     /// Neighbours that changed places.
     pub swaps: u64,
+    /// Those of them of which one was a LAST TRAIN that left.
+    pub last_train_swaps: u64,
     /// Steps run again after a swap.
     pub rerun: u64,
     /// States compared with those that document 01's own step leads to.
@@ -109,15 +119,18 @@ impl fmt::Display for Tally {
         write!(
             formatter,
             "lists {}, states {}, refused {}, opposed pairs {}, owing states {}, \
-             waiting states {}, swaps {}, steps rerun {}, \
-             states compared with document 01 {}, lists compared whole {}, most vehicles {}",
+             waiting states {}, given up states {}, swaps {}, with a last train {}, \
+             steps rerun {}, states compared with document 01 {}, lists compared whole {}, \
+             most vehicles {}",
             self.lists,
             self.states,
             self.refused,
             self.opposed_pairs,
             self.owing_states,
             self.waiting_states,
+            self.given_up_states,
             self.swaps,
+            self.last_train_swaps,
             self.rerun,
             self.compared_states,
             self.compared_lists,
@@ -219,7 +232,7 @@ fn check_state(list: &[Step], section: &Section, tally: &mut Tally) -> Result<()
     tally.states += 1;
     tally.most_vehicles = tally.most_vehicles.max(section.present);
     tally.opposed_pairs += check_opposed(list, section)?;
-    check_owed(list, section)?;
+    tally.given_up_states += u64::from(check_owed(list, section)? > 0);
     check_counts(list, section)?;
     let any = |figure: fn(&Desk) -> u8| section.desks.iter().any(|desk| figure(desk) > 0);
     tally.owing_states += u64::from(any(|desk| desk.owes));
@@ -288,33 +301,66 @@ fn left_slowly(list: &[Step], vehicle: &Vehicle) -> bool {
     })
 }
 
-/// Tests the line clears owed by both stations.
+/// The line clears that a station has to owe, by where they are.
+#[derive(Clone, Copy, Debug, PartialEq, Eq)]
+pub struct Owed {
+    /// Those that the other station holds.
+    pub held: usize,
+    /// Those that wait there.
+    pub waiting: usize,
+    /// The other station's trains in the section.
+    pub trains: usize,
+    /// The line clears given up that these trains carry.
+    pub given_up: usize,
+    /// Those on the way to the other station.
+    pub on_the_way: usize,
+}
+
+impl Owed {
+    /// What this station has to owe at the end of this list.
+    #[must_use]
+    pub fn by(station: Station, list: &[Step], section: &Section) -> Owed {
+        let other = section.desk(station.other());
+        let trains = trains_of(list, section, station.other());
+        let granted = section.sent_by(station).map(|vehicle| vehicle.granted);
+        let given_up = trains.iter().map(|train| train.given_up);
+        Owed {
+            held: other.holds.into(),
+            waiting: other.waiting.into(),
+            trains: trains.len(),
+            given_up: given_up.map(usize::from).sum(),
+            on_the_way: granted.map(usize::from).sum(),
+        }
+    }
+
+    /// All of them together.
+    #[must_use]
+    pub fn sum(&self) -> usize {
+        self.held + self.waiting + self.trains + self.given_up + self.on_the_way
+    }
+}
+
+/// Tests the line clears owed by both stations, and gives how many of them are
+/// given up.
 ///
 /// # Errors
 ///
 /// A station that owes more or less than the sum.
-pub fn check_owed(list: &[Step], section: &Section) -> Result<(), Failure> {
+pub fn check_owed(list: &[Step], section: &Section) -> Result<usize, Failure> {
     if !section.in_force {
-        return Ok(());
+        return Ok(0);
     }
+    let mut given_up = 0;
     for station in Station::BOTH {
-        let owed = usize::from(section.desk(station).owes);
-        let other = section.desk(station.other());
-        let (held, waiting) = (usize::from(other.holds), usize::from(other.waiting));
-        let trains = trains_of(list, section, station.other());
-        let on_the_way: usize = section
-            .sent_by(station)
-            .map(|vehicle| usize::from(vehicle.granted))
-            .sum();
-        if owed != held + waiting + trains + on_the_way {
-            let claim = format!(
-                "{station:?} owes {owed}: held {held}, waiting {waiting}, trains {trains}, \
-                 on the way {on_the_way}"
-            );
+        let owes = section.desk(station).owes;
+        let owed = Owed::by(station, list, section);
+        if usize::from(owes) != owed.sum() {
+            let claim = format!("{station:?} owes {owes}: {owed:?}");
             return fail(list, section, &claim);
         }
+        given_up += owed.given_up;
     }
-    Ok(())
+    Ok(given_up)
 }
 
 /// Tests that every refused step of the list is counted, and where it has to be.
@@ -334,12 +380,12 @@ pub fn check_counts(list: &[Step], section: &Section) -> Result<(), Failure> {
     Ok(())
 }
 
-/// A station's vehicles that left on TRAIN.
-fn trains_of(list: &[Step], section: &Section, station: Station) -> usize {
+/// A station's vehicles that left on TRAIN or LAST TRAIN.
+fn trains_of<'a>(list: &[Step], section: &'a Section, station: Station) -> Vec<&'a Vehicle> {
     section
         .sent_by(station)
-        .filter(|vehicle| matches!(departure_of(list, vehicle), Some((Kind::Train, _, _))))
-        .count()
+        .filter(|vehicle| departure_of(list, vehicle).is_some_and(|(kind, _, _)| kind.is_train()))
+        .collect()
 }
 
 /// Compares a list with what document 01's own step makes of it, up to the first
@@ -356,8 +402,8 @@ pub fn check_as_before(list: &[Step], sections: &[Section]) -> Result<usize, Fai
         if answer.is_err() {
             return Ok(place);
         }
-        // With nothing waiting in document 01's section, all figures have to be
-        // the same.
+        // With nothing waiting or given up in document 01's section, all figures
+        // have to be the same.
         if step.answer != answer || *after != before {
             let claim = format!("not as before: {answer:?} {before:?}");
             return fail(&list[..=place], after, &claim);
@@ -375,8 +421,11 @@ fn swap_neighbours(
     tally: &mut Tally,
 ) -> Result<(), Failure> {
     for place in 1..list.len() {
-        if may_change_places(&list[place - 1], &list[place]) {
+        let (first, second) = (&list[place - 1], &list[place]);
+        if may_change_places(first, second) {
             tally.swaps += 1;
+            let with_last_train = first.is_last_train() || second.is_last_train();
+            tally.last_train_swaps += u64::from(with_last_train);
             tally.rerun += (list.len() - place + 1) as u64;
             check_swap(stepper, list, sections, place)?;
         }
@@ -461,7 +510,7 @@ mod tests {
         // The record tells of a train, the list does not.
         section.places[0].left_on = Some(Kind::Train);
         assert_eq!(check_opposed(&list, &section), Ok(1));
-        assert_eq!(trains_of(&list, &section, Station::A), 0);
+        assert!(trains_of(&list, &section, Station::A).is_empty());
         // No departure in the list has this form number.
         section.places[0].form = 2;
         assert!(check_opposed(&list, &section).is_err());
@@ -495,22 +544,97 @@ mod tests {
     #[test]
     fn a_wrong_sum_of_line_clears_fails() {
         let (list, mut section) = run(&opened_from_both_ends());
-        assert_eq!(check_owed(&list, &section), Ok(()));
+        assert_eq!(check_owed(&list, &section), Ok(0));
         section.desks[0].owes = 1;
         assert!(check_owed(&list, &section).is_err());
         section.desks[1].holds = 1;
-        assert_eq!(check_owed(&list, &section), Ok(()));
+        assert_eq!(check_owed(&list, &section), Ok(0));
         // One held and one waiting are two, and two waiting as well.
         section.desks[1].waiting = 1;
         assert!(check_owed(&list, &section).is_err());
         section.desks[0].owes = 2;
-        assert_eq!(check_owed(&list, &section), Ok(()));
+        assert_eq!(check_owed(&list, &section), Ok(0));
         (section.desks[1].holds, section.desks[1].waiting) = (0, 2);
-        assert_eq!(check_owed(&list, &section), Ok(()));
+        assert_eq!(check_owed(&list, &section), Ok(0));
         (section.desks[1].holds, section.desks[1].waiting) = (1, 0);
         section.in_force = false;
         section.desks[1].holds = 0;
-        assert_eq!(check_owed(&list, &section), Ok(()));
+        assert_eq!(check_owed(&list, &section), Ok(0));
+    }
+
+    /// A holds four, and its first train is its last.
+    fn three_given_up() -> Vec<Entry> {
+        vec![
+            Entry::begin(),
+            Entry::open(Station::A, 0, 1, 1, 4),
+            Entry::receive(Station::B, 0, Station::A, 1),
+            Entry::send_back(Station::B, 0, 0, 4),
+            Entry::receive(Station::A, 0, Station::B, 1),
+            Entry::last_train(Station::A, 0, 1, 0, 0),
+        ]
+    }
+
+    #[test]
+    fn line_clears_given_up_stand_in_the_sum_beside_the_train() {
+        let (list, mut section) = run(&three_given_up());
+        let owed = Owed::by(Station::B, &list, &section);
+        assert_eq!((owed.trains, owed.given_up, owed.sum()), (1, 3, 4));
+        assert_eq!(check_owed(&list, &section), Ok(3));
+        // Without the train, or without what it gave up, the sum would not be 4.
+        assert_eq!(section.desks[1].owes, 4);
+        assert_ne!(owed.sum() - owed.trains, 4);
+        assert_ne!(owed.sum() - owed.given_up, 4);
+        for wrong in [0, 2, 4] {
+            section.places[0].given_up = wrong;
+            assert!(check_owed(&list, &section).is_err());
+        }
+        // Those of the other direction are not looked at for this sum.
+        section.places[0].given_up = 3;
+        section.desks[0].owes = 3;
+        assert!(check_owed(&list, &section).is_err());
+    }
+
+    #[test]
+    fn a_last_train_is_a_train_by_the_list_and_not_by_its_record() {
+        let (mut list, mut section) = run(&three_given_up());
+        for kind in [Kind::Through, Kind::Train, Kind::Open] {
+            section.places[0].left_on = Some(kind);
+            assert_eq!(trains_of(&list, &section, Station::A).len(), 1);
+            assert_eq!(check_owed(&list, &section), Ok(3));
+        }
+        // A vehicle that is no train by the list has none given up in the sum,
+        // whatever its record says.
+        list[5].entry = list[1].entry;
+        section.places[0].left_on = Some(Kind::LastTrain);
+        let owed = Owed::by(Station::B, &list, &section);
+        assert_eq!((owed.trains, owed.given_up), (0, 0));
+        assert!(check_owed(&list, &section).is_err());
+    }
+
+    #[test]
+    fn neighbours_with_a_last_train_change_places() {
+        let mut entries = three_given_up();
+        entries[3] = Entry::send_back(Station::B, 0, 5, 4);
+        entries.truncate(5);
+        entries.extend([
+            Entry::train(Station::A, 0, 1, 0, 5),
+            Entry::last_train(Station::A, 30, 1, 0, 0),
+            Entry::receive(Station::B, 9, Station::A, 2),
+            Entry::receive(Station::B, 40, Station::A, 3),
+            Entry::last_train(Station::B, 40, 1, 0, 0),
+            Entry::receive(Station::A, 70, Station::B, 2),
+        ]);
+        let (list, sections) = run_with_sections(&entries);
+        assert!(list.iter().all(|step| step.answer.is_ok()));
+        let covered = |first: usize| may_change_places(&list[first], &list[first + 1]);
+        // The receipt of the TRAIN and the last train that left before it.
+        assert!(covered(6));
+        assert!(!covered(7), "one station");
+        assert!(!covered(9), "the second receives what the first sent");
+        let mut tally = Tally::default();
+        let stepper = |section: &mut Section, bytes: &[u8]| step_in_place(section, bytes);
+        swap_neighbours(&stepper, &list, &sections, &mut tally).unwrap();
+        assert_eq!((tally.swaps, tally.last_train_swaps), (1, 1));
     }
 
     /// The opener of A comes back with a reply for two and an enquiry for one;
@@ -551,6 +675,9 @@ mod tests {
         let (list, sections) = run_with_sections(&two_trains(0, 2));
         assert_eq!(list[6].answer, Err(Refusal::GrantNotDue));
         assert_eq!(check_as_before(&list, &sections), Ok(6));
+        // To document 01 kind 9 is none.
+        let (list, sections) = run_with_sections(&three_given_up());
+        assert_eq!(check_as_before(&list, &sections), Ok(5));
     }
 
     #[test]

@@ -23,7 +23,7 @@ const SESSION: [&[u8]; 8] = [
 ];
 
 // Where the figures of a section start.
-const PRESENT: usize = 24 * 9;
+const PRESENT: usize = 24 * 10;
 const IN_FORCE: usize = PRESENT + 1;
 const FOR_A: usize = PRESENT + 2;
 const FOR_B: usize = FOR_A + 4;
@@ -33,7 +33,7 @@ const DESK_B: usize = DESK_A + 14;
 
 /// The figures of a section, of which all others are 0.
 fn figures(runs: &[(usize, &[u8])]) -> Figures {
-    let mut figures = [0; 258];
+    let mut figures = [0; 282];
     for &(start, run) in runs {
         figures[start..start + run.len()].copy_from_slice(run);
     }
@@ -86,14 +86,14 @@ fn the_session_by_hand() {
     let one = (PRESENT, &[1][..]);
     let a_after_open = (DESK_A, &[0, 10, 0, 1, 1, 1, 0, 10, 1][..]);
     let b_after_return = (DESK_B, &[0, 75, 0, 1, 1, 1, 0, 75, 0, 0, 0, 0, 2][..]);
-    let train_2 = &[5, 0, 0, 1, 0, 2, 2, 0, 0][..];
-    let trains_3_and_2 = &[5, 0, 0, 1, 0, 3, 2, 0, 0, 5, 0, 0, 1, 0, 2, 2, 0, 0][..];
+    let train_2 = &[5, 0, 0, 1, 0, 2, 2, 0, 0, 0][..];
+    let trains_3_and_2 = &[5, 0, 0, 1, 0, 3, 2, 0, 0, 0, 5, 0, 0, 1, 0, 2, 2, 0, 0, 0][..];
     let a_after_train = (DESK_A, &[0, 96, 0, 2, 1, 1, 0, 96, 0, 0, 0, 1][..]);
     let after = [
         figures(&[in_force]),
         // OPEN: class 1, asked 2, form 1; out is set.
         figures(&[
-            (0, &[2, 2, 0, 1, 0, 1, 2, 0, 1]),
+            (0, &[2, 2, 0, 1, 0, 1, 2, 0, 1, 0]),
             one,
             in_force,
             a_after_open,
@@ -106,7 +106,7 @@ fn the_session_by_hand() {
         ]),
         // RETURN: the guest's class, granted 2; B owes 2.
         figures(&[
-            (0, &[4, 0, 2, 2, 0, 1, 1, 0, 1]),
+            (0, &[4, 0, 2, 2, 0, 1, 1, 0, 1, 0]),
             one,
             in_force,
             a_after_open,
@@ -211,7 +211,7 @@ fn bytes_refused_and_a_cut_end_by_hand() {
 
 #[test]
 fn an_empty_log_by_hand() {
-    let zeros = "00".repeat(258);
+    let zeros = "00".repeat(282);
     let expected = format!("log 0\nat 0 end next 0\nvalue {zeros}\nmemory {zeros}\ncopy \n");
     assert_eq!(log_case(&[]).expected(), expected);
     assert_eq!(log_case(&[]).input(), [1, 0, 0]);
@@ -241,7 +241,7 @@ fn ill_made_sections_by_hand() {
     }));
     // One through engine of sender 3.
     let third = figures(&[
-        (0, &[3, 0, 0, 3, 0, 1, 2, 0, 1]),
+        (0, &[3, 0, 0, 3, 0, 1, 2, 0, 1, 0]),
         (PRESENT, &[1, 1]),
         (DESK_A, &[0, 0, 0, 1, 1]),
         (DESK_B, &[0, 0, 0, 1, 1]),
@@ -252,7 +252,7 @@ fn ill_made_sections_by_hand() {
 #[test]
 fn line_clears_waiting_by_hand() {
     // A train of A, form 7, with a grant of 2 comes to B, where 5 wait.
-    let train = &[5, 0, 2, 1, 0, 7, 2, 0, 0][..];
+    let train = &[5, 0, 2, 1, 0, 7, 2, 0, 0, 0][..];
     let receive = [0x87, 6, 2, 0, 50, 1, 0, 7];
     let at_a = (DESK_A, &[0, 9, 0, 7, 1, 1, 0, 9][..]);
     // Holds, owes and waiting are the last three figures of B's desk.
@@ -270,7 +270,64 @@ fn line_clears_waiting_by_hand() {
     expect_step(&before(8, 3, 0), &receive, "ok 0 0 -", &after(8, 2, 2));
     let nine = before(0, 3, 9);
     expect_step(&nine, &receive, "no 5", &nine);
-    assert_eq!(nine[257], 9);
+    assert_eq!(nine[281], 9);
+}
+
+#[test]
+fn the_last_train_by_hand() {
+    // A holds 8 and has been asked for 2; its train of kind 9 grants 2.
+    let at_b = (DESK_B, &[0, 40, 0, 3, 2, 1, 0, 40, 0, 0, 0, 6, 7, 5][..]);
+    let at_a = |figures: &'static [u8]| (DESK_A, figures);
+    let before = figures(&[
+        (IN_FORCE, &[1]),
+        at_a(&[0, 9, 0, 6, 0, 0, 0, 0, 0, 0, 2, 8]),
+        at_b,
+    ]);
+    let away = figures(&[
+        (0, &[9, 0, 2, 1, 0, 7, 2, 0, 0, 7]),
+        (PRESENT, &[1, 1]),
+        at_a(&[0, 10, 0, 7, 1, 1, 0, 10, 0, 0, 0, 0, 2]),
+        at_b,
+    ]);
+    let last_train = [0x4F, 9, 1, 0, 10, 3, 2];
+    // 8, 32, 128 and 4: UP, at the booked speed, with a reply.
+    expect_step(&before, &last_train, "ok 7 172 B", &away);
+    // B owes 7 and has 5 waiting. The two take their place and are held.
+    let received = figures(&[
+        (IN_FORCE, &[1]),
+        at_a(&[0, 10, 0, 7, 1, 1, 0, 10, 0, 0, 0, 0, 2]),
+        (DESK_B, &[0, 50, 0, 3, 0, 0, 0, 0, 0, 0, 0, 2]),
+    ]);
+    let receive = [0x87, 6, 2, 0, 50, 1, 0, 7];
+    expect_step(&away, &receive, "ok 0 0 -", &received);
+    // A may not have it back, and 8 given up are one too many.
+    let mut refused = away;
+    refused[FOR_A + 3] = 1;
+    expect_step(&away, &[0x87, 6, 1, 0, 50, 1, 0, 7], "no 21", &refused);
+    let mut eight = away;
+    eight[9] = 8;
+    expect_step(&eight, &receive, "no 5", &eight);
+    // A kind behind the last is none; it is counted for no station.
+    let mut none = before;
+    none[OF_NONE + 3] = 1;
+    expect_step(&before, &[0x4F, 10, 1, 0, 10, 3, 2], "no 2", &none);
+}
+
+#[test]
+fn sections_have_every_number_of_line_clears_given_up_by_either_station() {
+    for station in Station::BOTH {
+        let mut given_up = BTreeSet::new();
+        for case in CASES.iter() {
+            if let Case::Step { section, .. } = case {
+                let last = section
+                    .sent_by(station)
+                    .filter(|vehicle| vehicle.left_on == Some(Kind::LastTrain));
+                given_up.extend(last.map(|vehicle| vehicle.given_up));
+            }
+        }
+        let expected: BTreeSet<u8> = (0..=8).chain([u8::MAX]).collect();
+        assert_eq!(given_up, expected);
+    }
 }
 
 #[test]
@@ -295,7 +352,7 @@ fn form_9999_and_a_count_at_its_largest_by_hand() {
     let through = [0x1F, 3, 1, 0, 9, 3, 1];
     let before = figures(&[(IN_FORCE, &[1]), (DESK_A, &[0, 9, 0x27, 0x0E, 11])]);
     let after = figures(&[
-        (0, &[3, 0, 0, 1, 0x27, 0x0F, 2, 0, 1]),
+        (0, &[3, 0, 0, 1, 0x27, 0x0F, 2, 0, 1, 0]),
         (PRESENT, &[1, 1]),
         (DESK_A, &[0, 9, 0x27, 0x0F, 12, 1, 0, 9]),
     ]);
@@ -418,7 +475,7 @@ fn parsed(mut input: &[u8]) -> Vec<Case> {
                 log: bytes(&mut input),
             },
             2 => {
-                let figures: &Figures = take(&mut input, 258).try_into().unwrap();
+                let figures: &Figures = take(&mut input, 282).try_into().unwrap();
                 let section = Box::new(Section::from_figures(figures).unwrap());
                 Case::Step {
                     section,
@@ -466,7 +523,7 @@ fn the_input_is_read_back() {
     let input = input(&CASES);
     assert_eq!(parsed(&input), *CASES);
     assert_eq!(all(), *CASES);
-    assert!(input.len() < 260_000, "{}", input.len());
+    assert!(input.len() < 350_000, "{}", input.len());
 }
 
 #[test]
@@ -540,7 +597,7 @@ fn the_sections_have_every_refusal() {
             }
         }
     }
-    assert_eq!(accepted, (1..=8).collect());
+    assert_eq!(accepted, (1..=9).collect());
     assert!(lines.iter().any(|line| line.starts_with("value ok 9999 ")));
 }
 
@@ -632,7 +689,7 @@ fn the_positions_have_every_outcome() {
 #[test]
 fn the_expected_output_keeps_its_size() {
     let expected = expected(&CASES);
-    assert!(expected.len() < 1_050_000, "{}", expected.len());
+    assert!(expected.len() < 1_450_000, "{}", expected.len());
     assert!(expected.ends_with('\n'));
     let starts = ["log ", "step ", "write ", "read "];
     let started = expected

@@ -18,24 +18,27 @@ fn counts(for_a: u32, for_b: u32, of_none: u32) -> Refused {
 }
 
 /// An entry of each kind that names this station.
-fn entries_at(station: Station) -> [(Kind, Entry); 6] {
+fn entries_at(station: Station) -> [(Kind, Entry); 7] {
     [
         (Kind::Open, Entry::open(station, 0, 1, 1, 1)),
         (Kind::Through, Entry::through(station, 0, 1)),
         (Kind::Return, Entry::send_back(station, 0, 0, 0)),
         (Kind::Train, Entry::train(station, 0, 1, 0, 0)),
+        (Kind::LastTrain, Entry::last_train(station, 0, 1, 0, 0)),
         (Kind::Receive, Entry::receive(station, 0, A, 1)),
         (Kind::Meet, Entry::meet(station, A, 1)),
     ]
 }
 
 /// Bytes refused with this number that show this station.
-fn no_entries_at(station: Station) -> [(u8, Vec<u8>); 5] {
+fn no_entries_at(station: Station) -> [(u8, Vec<u8>); 7] {
     let station = station.number();
     [
         (1, vec![0x87, 6, station, 0, 0, 1, 0]),
-        (2, vec![0x03, 9, station]),
+        (2, vec![0x03, 10, station]),
         (3, vec![0x03, 8, station]),
+        (3, vec![0x03, 9, station]),
+        (4, vec![0x0F, 9, station, 0, 0, 4]),
         (4, vec![0x0F, 5, station, 0, 0, 4]),
         (4, vec![0x83, 7, station, 3, 0, 1]),
     ]
@@ -60,13 +63,13 @@ fn seven_is_the_entrys_stations_but_for_meet_and_resume() {
     for (_, entry) in entries_at(A) {
         register.refuse(7, entry);
     }
-    assert_eq!(register.section.refused, counts(5, 0, 1));
+    assert_eq!(register.section.refused, counts(6, 0, 1));
     for (_, entry) in entries_at(B) {
         register.refuse(7, entry);
     }
-    assert_eq!(register.section.refused, counts(5, 5, 2));
+    assert_eq!(register.section.refused, counts(6, 6, 2));
     register.refuse(7, Entry::resume());
-    assert_eq!(register.section.refused, counts(5, 5, 3));
+    assert_eq!(register.section.refused, counts(6, 6, 3));
 }
 
 #[test]
@@ -135,7 +138,7 @@ fn bytes_refused_with_1_to_4_are_of_no_station_though_they_show_one() {
             }
         }
         assert_eq!(step_and_test(&mut register.section, &[]), Err(Refusal::Cut));
-        assert_eq!(register.section.refused, counts(0, 0, 11));
+        assert_eq!(register.section.refused, counts(0, 0, 15));
     }
 }
 

@@ -71,6 +71,7 @@ fn an_opener_leaves() {
         class: 3,
         asked: 6,
         granted: 0,
+        given_up: 0,
     };
     assert_eq!(register.section.vehicles(), [vehicle]);
 }

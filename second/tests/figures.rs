@@ -1,4 +1,4 @@
-//! The 258 figures of a section: each in its place, and back again.
+//! The 282 figures of a section: each in its place, and back again.
 
 use second::figures::{digest, Figures, FIGURES_LENGTH};
 use second::generator::{any_section, Generator, Options};
@@ -6,7 +6,7 @@ use second::random::Random;
 use second::{Desk, Kind, Refused, Section, Vehicle};
 
 // Where some figures behind the 24 places stand.
-const IN_FORCE: usize = 24 * 9 + 1;
+const IN_FORCE: usize = 24 * 10 + 1;
 const DESK_A: usize = IN_FORCE + 1 + 3 * 4;
 const DESK_B: usize = DESK_A + 14;
 
@@ -24,7 +24,7 @@ fn numbered() -> Section {
         ..Section::fresh()
     };
     section.places[0] = Vehicle {
-        left_on: Some(Kind::Train),
+        left_on: Some(Kind::LastTrain),
         asked: 0x21,
         granted: 0x22,
         sender: 0x23,
@@ -32,6 +32,12 @@ fn numbered() -> Section {
         heading: 0x26,
         met: true,
         class: 0x27,
+        given_up: 0x28,
+    };
+    section.places[1] = Vehicle {
+        left_on: Some(Kind::Train),
+        given_up: 0,
+        ..section.places[0]
     };
     section.places[23] = Vehicle {
         left_on: Some(Kind::Open),
@@ -81,9 +87,10 @@ fn round_trip(section: &Section) -> Figures {
 #[test]
 fn every_figure_stands_in_its_place() {
     let figures = round_trip(&numbered());
-    let mut expected = vec![5, 0x21, 0x22, 0x23, 0x24, 0x25, 0x26, 1, 0x27];
-    expected.extend([0; 22 * 9]);
-    expected.extend([2, 0x31, 0, 0x32, 0x33, 0x34, 0x35, 0, 0x36]);
+    let mut expected = vec![9, 0x21, 0x22, 0x23, 0x24, 0x25, 0x26, 1, 0x27, 0x28];
+    expected.extend([5, 0x21, 0x22, 0x23, 0x24, 0x25, 0x26, 1, 0x27, 0]);
+    expected.extend([0; 21 * 10]);
+    expected.extend([2, 0x31, 0, 0x32, 0x33, 0x34, 0x35, 0, 0x36, 0]);
     expected.extend([0x12, 1, 0x13, 0x14, 0x15, 0x16]);
     expected.extend([0x17, 0x18, 0x19, 0x1A, 0x1B, 0x1C, 0x1D, 0x1E]);
     expected.extend([0x41, 0x42, 0x43, 0x44, 0x45, 1, 0x46, 0x47, 1]);
@@ -153,8 +160,14 @@ fn what_has_no_room_has_no_figures() {
         |section| section.places[0].left_on = Some(Kind::Receive),
         |section| section.places[0].left_on = Some(Kind::Meet),
         |section| section.places[0].left_on = Some(Kind::Resume),
-        |section| section.places[0].left_on = Some(Kind::Through),
-        |section| section.places[0].left_on = None,
+        // It carries messages, and line clears given up.
+        |section| section.places[0].left_on = Some(Kind::Return),
+        |section| section.places[0].left_on = Some(Kind::Train),
+        |section| section.places[1].left_on = Some(Kind::Through),
+        |section| section.places[1].left_on = None,
+        |section| section.places[1].given_up = 1,
+        |section| section.places[2].given_up = 1,
+        |section| section.places[23].given_up = 1,
         |section| section.places[23].granted = 1,
         |section| section.places[23].left_on = Some(Kind::Through),
     ] {
@@ -176,15 +189,26 @@ fn bytes_that_are_no_section() {
         figures[place] = value;
         Section::from_figures(&figures)
     };
-    // Kinds: none of the four; THROUGH and none, which have no messages.
-    for kind in [0, 1, 2, 3, 6, 7, 8, 9, 255] {
+    // Kinds: none of the departures; THROUGH and none, which have no messages; and
+    // all but LAST TRAIN, which have none given up.
+    for kind in [0, 1, 2, 3, 4, 5, 6, 7, 8, 10, 255] {
         assert_eq!(altered(0, kind), None, "kind {kind}");
     }
-    assert!(altered(0, 4).is_some());
+    for kind in [0, 1, 2, 3, 6, 7, 8, 10, 255] {
+        assert_eq!(altered(10, kind), None, "kind {kind}");
+    }
+    assert!(altered(10, 4).is_some());
+    assert!(altered(10, 9).is_some());
+    // Line clears given up: any number on the LAST TRAIN, none on the others.
+    assert!(altered(9, 0).is_some());
+    assert!(altered(9, 255).is_some());
+    for place in [1, 2, 23] {
+        assert_eq!(altered(place * 10 + 9, 1), None);
+    }
     // Line clears on the OPEN.
-    assert_eq!(altered(23 * 9 + 2, 1), None);
+    assert_eq!(altered(23 * 10 + 2, 1), None);
     // An OPEN with 0 in every other figure.
-    assert_eq!(altered(9, 2), None);
+    assert_eq!(altered(20, 2), None);
     // Met, in force, interval running, out: neither 0 nor 1.
     let [a, b] = [DESK_A, DESK_B];
     for place in [7, IN_FORCE, a + 5, a + 8, b + 5, b + 8] {

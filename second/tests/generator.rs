@@ -137,29 +137,12 @@ fn name_entry(
     let kind = Kind::from_number(entry.kind).unwrap();
     let station = Station::from_number(entry.station).unwrap_or(Station::A);
     let desk = before.desk(station);
-    let message = ["no", "some"];
-    let asks = message[usize::from(entry.asked > 0)];
-    let grants = message[usize::from(entry.granted > 0)];
     match kind {
         Kind::Open | Kind::Through => {
             name(true, &format!("{kind:?} in view {}", entry.view));
         }
-        Kind::Return => name(true, &format!("Return: {asks} asked, {grants} granted")),
-        Kind::Train => {
-            name(true, &format!("Train: {asks} asked, {grants} granted"));
-            name(
-                true,
-                &format!("Train in view {}, {}", entry.view, accepted.speed),
-            );
-            name(
-                desk.holds == 1 && desk.sent == 7,
-                "eighth train of a series",
-            );
-            let ahead = entry.granted > 0 && desk.holds > 1;
-            name(ahead, "a reply ahead of the last train");
-            let with_the_last = entry.granted > 0 && desk.holds == 1;
-            name(with_the_last, "a reply with the last train");
-        }
+        Kind::Return => name(true, &format!("Return: {}", messages(entry))),
+        Kind::Train | Kind::LastTrain => name_train(kind, entry, accepted, desk, name),
         Kind::Meet => {
             let named = before
                 .vehicles()
@@ -182,6 +165,41 @@ fn name_entry(
     }
 }
 
+/// What rides along.
+fn messages(entry: &Entry) -> String {
+    let some = |figure: u8| if figure > 0 { "some" } else { "no" };
+    let (asks, grants) = (some(entry.asked), some(entry.granted));
+    format!("{asks} asked, {grants} granted")
+}
+
+/// At the desk as it was before it.
+fn name_train(
+    kind: Kind,
+    entry: &Entry,
+    accepted: Accepted,
+    desk: &Desk,
+    name: &mut impl FnMut(bool, &str),
+) {
+    name(true, &format!("{kind:?}: {}", messages(entry)));
+    name(
+        true,
+        &format!("{kind:?} in view {}, {}", entry.view, accepted.speed),
+    );
+    name(
+        desk.holds == 1 && desk.sent == 7,
+        "eighth train of a series",
+    );
+    if kind == Kind::LastTrain {
+        let held = format!("{} held, and the last train leaves", desk.holds);
+        name(true, &held);
+    } else {
+        let ahead = entry.granted > 0 && desk.holds > 1;
+        name(ahead, "a reply ahead of the last train");
+        let with_the_last = entry.granted > 0 && desk.holds == 1;
+        name(with_the_last, "a reply with the last train");
+    }
+}
+
 /// At the desk as it was before it, of the vehicle that then stood nearest.
 fn name_receipt(entry: &Entry, desk: &Desk, nearest: &Vehicle, name: &mut impl FnMut(bool, &str)) {
     let own = entry.station == entry.sender;
@@ -191,11 +209,21 @@ fn name_receipt(entry: &Entry, desk: &Desk, nearest: &Vehicle, name: &mut impl F
         !own,
         &format!("{left_on:?} of the other, met {}", nearest.met),
     );
-    let train = left_on == Kind::Train;
+    let train = left_on.is_train();
     let stale = train && nearest.asked == 0 && desk.asked > 0;
     name(stale, "an enquiry outlives a train without one");
     let asks_more = train && nearest.asked > 0 && desk.waiting > 0;
     name(asks_more, "an enquiry comes in while clears wait");
+    if left_on == Kind::LastTrain {
+        let released = desk.waiting > 0 && nearest.granted == 0;
+        name(released, "the last train releases what waits");
+        let brings = nearest.granted > 0 && desk.owes > 1;
+        name(brings, "what the last train brings is held at once");
+        name(
+            true,
+            &format!("{} given up, {} owed", nearest.given_up, desk.owes),
+        );
+    }
 }
 
 fn places_wished_for() -> BTreeSet<String> {
@@ -217,14 +245,17 @@ fn places_wished_for() -> BTreeSet<String> {
     for view in 1..=3 {
         wished.insert(format!("Open in view {view}"));
         wished.insert(format!("Through in view {view}"));
-        wished.insert(format!("Train in view {view}, {}", Speed::Booked));
         let follower = if view == 1 { 25 } else { 10 };
-        wished.insert(format!("Train in view {view}, {follower}"));
+        for kind in ["Train", "LastTrain"] {
+            wished.insert(format!("{kind} in view {view}, {}", Speed::Booked));
+            wished.insert(format!("{kind} in view {view}, {follower}"));
+        }
     }
     for asks in ["no", "some"] {
         for grants in ["no", "some"] {
             wished.insert(format!("Return: {asks} asked, {grants} granted"));
             wished.insert(format!("Train: {asks} asked, {grants} granted"));
+            wished.insert(format!("LastTrain: {asks} asked, {grants} granted"));
         }
     }
     for kind in ["Open", "Through"] {
@@ -233,6 +264,12 @@ fn places_wished_for() -> BTreeSet<String> {
             wished.insert(format!("{kind} of the other, met {met}"));
         }
     }
+    for held in 1..=8 {
+        wished.insert(format!("{held} held, and the last train leaves"));
+        // From the fresh section on, what is given up and the train itself are all
+        // that is owed when the last train comes in.
+        wished.insert(format!("{} given up, {held} owed", held - 1));
+    }
     let others = [
         "24 vehicles",
         "eighth train of a series",
@@ -240,6 +277,9 @@ fn places_wished_for() -> BTreeSet<String> {
         "meeting of two that met",
         "Return of the other, met false",
         "Train of the other, met false",
+        "LastTrain of the other, met false",
+        "the last train releases what waits",
+        "what the last train brings is held at once",
         "an enquiry outlives a train without one",
         "a reply ahead of the last train",
         "a reply with the last train",
@@ -297,8 +337,76 @@ fn clears_wait_in_most_logs_and_in_most_accepted_logs() {
     assert!(many > 32, "{many} of 48");
 }
 
-/// What is made by document 01's own step is also accepted by today's, and no
-/// line clear waits in it.
+/// Whether line clears are given up in some state of a log.
+fn clears_given_up_in(log: &[u8]) -> bool {
+    let mut given_up = false;
+    for_each_line(log, |_, _, after| {
+        given_up |= after.vehicles().iter().any(|vehicle| vehicle.given_up > 0);
+    });
+    given_up
+}
+
+/// How many logs of 300 entries have line clears given up.
+fn logs_with_clears_given_up(seeds: impl Iterator<Item = u64>, accepted: bool) -> usize {
+    let options = Options {
+        accepted,
+        ..Options::default()
+    };
+    seeds
+        .filter(|&seed| clears_given_up_in(&log(seed, 300, options)))
+        .count()
+}
+
+#[test]
+fn clears_are_given_up_in_most_logs_and_in_most_accepted_logs() {
+    let many = logs_with_clears_given_up(1..=48, false);
+    assert!(many > 32, "{many} of 48");
+    let many = logs_with_clears_given_up(101..=108, true);
+    assert!(many > 4, "{many} of 8");
+    let many = logs_with_clears_given_up(1..=48, true);
+    assert!(many > 32, "{many} of 48");
+}
+
+/// The refusals of bytes whose kind is 9, with how often each comes.
+fn refused_last_trains_in(log: &[u8], found: &mut BTreeMap<u8, usize>) {
+    let mut rest = log;
+    for line in Run::new(log) {
+        let (bytes, behind) = rest.split_at(entry_length(rest[0]).min(rest.len()));
+        rest = behind;
+        if let (&[map, 9, ..], Err(refusal)) = (bytes, line.answer) {
+            if map & 1 != 0 {
+                *found.entry(refusal.number()).or_default() += 1;
+            }
+        }
+    }
+}
+
+/// 17 is not for a log: what is held came with a receipt, which let the count of
+/// departures start again, and the trains that it is for are eight at most.
+#[test]
+fn last_trains_are_refused_for_every_reason() {
+    let mut found = BTreeMap::new();
+    for log in LOGS.iter() {
+        refused_last_trains_in(log, &mut found);
+    }
+    for number in [3, 4, 7, 9, 15, 16, 19] {
+        let times = found.get(&number).copied().unwrap_or(0);
+        assert!(times > 5, "{number}: {times}");
+    }
+    let options = Options {
+        worn: true,
+        ..Options::default()
+    };
+    for seed in 0..12 {
+        refused_last_trains_in(&log(seed, 400, options), &mut found);
+        refused_last_trains_in(&log(seed, 300, Options::default()), &mut found);
+    }
+    let numbers: Vec<u8> = found.into_keys().collect();
+    assert_eq!(numbers, [1, 3, 4, 7, 9, 15, 16, 18, 19]);
+}
+
+/// What is made by document 01's own step is also accepted by today's, no line
+/// clear waits in it, and no train is endorsed as the last.
 #[test]
 fn a_log_by_document_01_is_accepted_and_has_nothing_waiting() {
     let mut grants = 0;
@@ -312,6 +420,7 @@ fn a_log_by_document_01_is_accepted_and_has_nothing_waiting() {
         assert!(!clears_wait_in(&log), "seed {seed}");
         for line in Run::new(&log) {
             assert!(line.answer.is_ok(), "seed {seed}");
+            assert_ne!(line.kind(), 9, "seed {seed}");
             grants += line.entry.map_or(0, |entry| u32::from(entry.granted > 0));
         }
     }

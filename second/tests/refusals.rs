@@ -40,10 +40,12 @@ fn refusals_1_to_4_of_bytes_in_and_out_of_force() {
         refuse_bytes(&mut register, 1, &[0xFF]);
         refuse_bytes(&mut register, 2, &[0x00]);
         refuse_bytes(&mut register, 2, &[0x01, 0]);
-        refuse_bytes(&mut register, 2, &[0x01, 9]);
+        refuse_bytes(&mut register, 2, &[0x01, 10]);
+        refuse_bytes(&mut register, 2, &[0x01, 255]);
         refuse_bytes(&mut register, 2, &[0x02, 1]);
         refuse_bytes(&mut register, 3, &[0x01, 2]);
         refuse_bytes(&mut register, 3, &[0x03, 8, 1]);
+        refuse_bytes(&mut register, 3, &[0x01, 9]);
         refuse_bytes(&mut register, 3, &[0x7F, 2, 1, 0, 10, 1, 1, 1, 1]);
         refuse_bytes(&mut register, 4, &[0x07, 4, 0, 0, 10]);
         refuse_bytes(&mut register, 4, &[0x87, 6, 1, 0, 10, 1, 0x27, 0x10]);
@@ -58,6 +60,7 @@ fn refusals_6_7_and_8_of_the_declaration() {
     register.refuse(7, Entry::through(A, 0, 1));
     register.refuse(7, Entry::send_back(B, 0, 0, 0));
     register.refuse(7, Entry::train(B, 0, 1, 0, 0));
+    register.refuse(7, Entry::last_train(A, 0, 1, 0, 0));
     register.refuse(7, Entry::receive(A, 0, B, 1));
     register.refuse(7, Entry::meet(A, A, 1));
     register.accept(Entry::begin());
@@ -292,7 +295,7 @@ fn refusal_22_of_a_meeting() {
 fn refusal_22_of_vehicles_on_a_line_clear() {
     // No log leads to a train that faces another vehicle, but a section can be
     // well made with one.
-    for kind in [Kind::Return, Kind::Train] {
+    for kind in [Kind::Return, Kind::Train, Kind::LastTrain] {
         for place in [0, 1] {
             let mut register = Register::begun();
             register.accept(Entry::through(A, 0, 1));
@@ -311,7 +314,7 @@ fn refusal_5_comes_first_and_alters_nothing() {
     let mut ill_made = Register::begun().section;
     ill_made.desk_mut(A).sent = 13;
     let begin = bytes_of(&Entry::begin());
-    for bytes in [&[][..], &[0], &[1, 9], &[3, 1, 1], &begin] {
+    for bytes in [&[][..], &[0], &[1, 9], &[1, 10], &[3, 1, 1], &begin] {
         let answer = step_and_test(&mut ill_made, bytes);
         assert_eq!(answer, Err(Refusal::IllMade));
     }
@@ -358,5 +361,5 @@ fn any_well_made_section_stays_well_made() {
     }
     let expected: BTreeSet<u8> = (1..=22).filter(|&number| number != 5).collect();
     assert_eq!(seen, expected);
-    assert_eq!(accepted, (1..=8).collect());
+    assert_eq!(accepted, (1..=9).collect());
 }

@@ -5,7 +5,7 @@ use second::random::Random;
 use second::{decode, encode, entry_length, Entry, Reader, Refusal, Writer};
 
 /// The table of maps as the document prints it: bits that must, bits that may.
-const TABLE: [(u8, &str, &str); 8] = [
+const TABLE: [(u8, &str, &str); 9] = [
     (1, "0", ""),
     (8, "0", ""),
     (2, "012345", ""),
@@ -14,6 +14,8 @@ const TABLE: [(u8, &str, &str); 8] = [
     (5, "0123", "56"),
     (6, "0127", ""),
     (7, "017", ""),
+    // T-03: the map of TRAIN.
+    (9, "0123", "56"),
 ];
 
 fn table_allows(kind: u8, map: u8) -> bool {
@@ -44,7 +46,7 @@ fn ranges_hold(entry: &Entry) -> bool {
 
 /// What the document says about whole bytes with these fields.
 fn expected(entry: &Entry) -> Result<(), Refusal> {
-    if entry.map & bit::KIND == 0 || !(1..=8).contains(&entry.kind) {
+    if entry.map & bit::KIND == 0 || !(1..=9).contains(&entry.kind) {
         Err(Refusal::NoKind)
     } else if !table_allows(entry.kind, entry.map) {
         Err(Refusal::MapNotOfKind)
@@ -136,16 +138,16 @@ fn every_map_and_kind_with_fields_in_range() {
     let mut random = Random::new(1);
     let mut accepted = 0;
     for map in 0..=u8::MAX {
-        for kind in 0..=10 {
+        for kind in (0..=11).chain([255]) {
             for _ in 0..20 {
                 let entry = any_entry(&mut random, map, kind);
                 accepted += u32::from(round_trip(&entry).is_ok());
             }
         }
     }
-    // BEGIN, RESUME, OPEN, THROUGH, RECEIVE and MEET have one map, RETURN and
-    // TRAIN four each.
-    assert_eq!(accepted, 20 * 14);
+    // BEGIN, RESUME, OPEN, THROUGH, RECEIVE and MEET have one map, RETURN, TRAIN and
+    // LAST TRAIN four each.
+    assert_eq!(accepted, 20 * 18);
 }
 
 #[test]
@@ -153,7 +155,7 @@ fn every_map_and_kind_with_any_fields() {
     let mut random = Random::new(2);
     let edges = [0, 1, 2, 3, 4, 5, 6, 8, 9, 255];
     for map in 0..=u8::MAX {
-        for kind in 0..=10 {
+        for kind in (0..=11).chain([255]) {
             for _ in 0..10 {
                 let mut byte = || random.pick(&edges);
                 let (station, view, class) = (byte(), byte(), byte());
@@ -182,7 +184,7 @@ fn one_field_at_a_time_over_all_its_values() {
     for (kind, must, _) in TABLE {
         let map: u8 = must.bytes().map(|digit| 1 << (digit - b'0')).sum();
         let maps = match kind {
-            4 | 5 => vec![map, map | bit::ASKED, map | bit::GRANTED, map | 0x60],
+            4 | 5 | 9 => vec![map, map | bit::ASKED, map | bit::GRANTED, map | 0x60],
             _ => vec![map],
         };
         for map in maps {

@@ -159,6 +159,7 @@ fn vehicle(kind: Kind, sender: Station, granted: u8) -> Vehicle {
         },
         asked: u8::from(kind == Kind::Open),
         granted,
+        given_up: 0,
     }
 }
 

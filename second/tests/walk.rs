@@ -3,8 +3,10 @@
 
 use std::process::{Command, Output};
 
-use second::walk::{walk, walk_with};
-use second::{decode, step_in_place, Answer, Kind, Section, Speed, Station};
+use second::walk::{walk, walk_with, Stepper};
+use second::{
+    decode, step_in_place, Answer, Desk, Kind, Refusal, Section, Speed, Station, Vehicle,
+};
 
 #[test]
 fn the_claims_hold_on_a_share_of_the_walks() {
@@ -14,7 +16,9 @@ fn the_claims_hold_on_a_share_of_the_walks() {
         assert!(tally.opposed_pairs > 10_000, "{tally}");
         assert!(tally.owing_states > 500, "{tally}");
         assert!(tally.waiting_states > 100, "{tally}");
+        assert!(tally.given_up_states > 40, "{tally}");
         assert!(tally.swaps > 300, "{tally}");
+        assert!(tally.last_train_swaps > 10, "{tally}");
         assert!(tally.rerun > 10 * tally.swaps, "{tally}");
         assert!(tally.compared_states > 1_000, "{tally}");
         assert!(tally.compared_lists > 3, "{tally}");
@@ -35,8 +39,50 @@ fn walk_with_slip(slip: impl Fn(&mut Section, Kind, Station)) -> String {
         }
         answer
     };
-    let outcome = walk_with(&stepper, 1, 20_000);
+    walk_that_fails(&stepper)
+}
+
+/// What a walk says of a step with a slip.
+fn walk_that_fails(stepper: &impl Stepper) -> String {
+    let outcome = walk_with(stepper, 1, 20_000);
     outcome.expect_err("the slip is to be caught").0
+}
+
+/// A step with a slip about trains endorsed as the last: after one has left,
+/// `departed` gets the section, its station and what was held before; after one is
+/// in, `received` gets the desk and what it owed before.
+fn walk_with_last_trains(
+    departed: impl Fn(&mut Section, Station, u8),
+    received: impl Fn(&mut Desk, u8),
+) -> String {
+    walk_that_fails(&|section: &mut Section, bytes: &[u8]| -> Answer {
+        let before = section.clone();
+        let answer = step_in_place(section, bytes)?;
+        let Ok(entry) = decode(bytes) else {
+            return Ok(answer);
+        };
+        let Some(station) = Station::from_number(entry.station) else {
+            return Ok(answer);
+        };
+        let desk = before.desk(station);
+        let nearest = before.nearest(station).and_then(|vehicle| vehicle.left_on);
+        match (Kind::from_number(entry.kind), nearest) {
+            (Some(Kind::LastTrain), _) => departed(section, station, desk.holds),
+            (Some(Kind::Receive), Some(Kind::LastTrain)) => {
+                received(section.desk_mut(station), desk.owes);
+            }
+            _ => {}
+        }
+        Ok(answer)
+    })
+}
+
+/// The train that has just left this station.
+fn train_leaving(section: &mut Section, station: Station) -> &mut Vehicle {
+    match station {
+        Station::A => &mut section.places[0],
+        Station::B => &mut section.places[section.present - 1],
+    }
 }
 
 #[track_caller]
@@ -137,6 +183,108 @@ fn a_grant_added_to_what_waits_is_caught() {
         }
     });
     is_caught_as(&message, "owes");
+}
+
+#[test]
+fn a_last_train_that_lowers_holds_by_1_is_caught() {
+    let message = walk_with_last_trains(
+        |section, station, held| section.desk_mut(station).holds = held - 1,
+        |_, _| {},
+    );
+    is_caught_as(&message, "owes");
+}
+
+#[test]
+fn a_last_train_whose_receipt_lowers_owes_by_1_is_caught() {
+    let message = walk_with_last_trains(
+        |_, _, _| {},
+        |desk, owed| desk.owes = owed.saturating_sub(1),
+    );
+    is_caught_as(&message, "owes");
+}
+
+/// One more than is given up. Of eight held it is no figure at all, so the walk
+/// stops at the sum or at what is well made.
+#[test]
+fn a_last_train_that_gives_up_its_own_line_clear_is_caught() {
+    let message = walk_with_last_trains(
+        |section, station, held| train_leaving(section, station).given_up = held.min(7),
+        |_, _| {},
+    );
+    is_caught_as(&message, "owes");
+    let message = walk_with_last_trains(
+        |section, station, held| train_leaving(section, station).given_up = held,
+        |_, _| {},
+    );
+    let first_line = message.lines().next().unwrap();
+    assert!(first_line.contains("owes") || first_line.contains("not well made"));
+}
+
+#[test]
+fn a_last_train_that_carries_nothing_given_up_is_caught() {
+    let message = walk_with_last_trains(
+        |section, station, _| train_leaving(section, station).given_up = 0,
+        |_, _| {},
+    );
+    is_caught_as(&message, "owes");
+}
+
+/// A last train whose record is that of a through engine, as if it were no train.
+/// The walk counts it by the list; its receipt then leaves owed what is in.
+#[test]
+fn a_last_train_that_is_no_train_is_caught() {
+    let message = walk_with_last_trains(
+        |section, station, _| {
+            let train = train_leaving(section, station);
+            *train = Vehicle {
+                left_on: Some(Kind::Through),
+                class: 1,
+                asked: 0,
+                granted: 0,
+                given_up: 0,
+                ..*train
+            };
+        },
+        |_, _| {},
+    );
+    is_caught_as(&message, "owes");
+}
+
+/// Its own last train comes in again, as a through engine may.
+#[test]
+fn a_last_train_taken_back_is_caught() {
+    let message = walk_that_fails(&|section: &mut Section, bytes: &[u8]| -> Answer {
+        let mut as_engine = section.clone();
+        let answer = step_in_place(section, bytes);
+        let (Ok(entry), Err(Refusal::MayNotEnter)) = (decode(bytes), answer) else {
+            return answer;
+        };
+        let station = Station::from_number(entry.station).unwrap();
+        let own = train_leaving(&mut as_engine, station);
+        if own.left_on != Some(Kind::LastTrain) || entry.sender != entry.station {
+            return answer;
+        }
+        (own.left_on, own.class, own.given_up) = (Some(Kind::Through), 1, 0);
+        (own.asked, own.granted) = (0, 0);
+        *section = as_engine;
+        step_in_place(section, bytes)
+    });
+    is_caught_as(&message, "owes");
+}
+
+/// As where the table of kinds is one row too long.
+#[test]
+fn kind_10_taken_as_9_is_caught() {
+    let message = walk_that_fails(&|section: &mut Section, bytes: &[u8]| -> Answer {
+        let mut bytes = bytes.to_vec();
+        if let [map, kind @ 10, ..] = &mut bytes[..] {
+            if *map & 1 != 0 {
+                *kind = 9;
+            }
+        }
+        step_in_place(section, &bytes)
+    });
+    is_caught_as(&message, "counted");
 }
 
 #[test]

@@ -5,6 +5,16 @@ use Station::{A, B};
 
 const BEGIN: [u8; 2] = [1, 1];
 
+/// What a vehicle may have left on, in the order in which they stand in
+/// [`crowded`].
+const KINDS: [Kind; 5] = [
+    Kind::Open,
+    Kind::Through,
+    Kind::Return,
+    Kind::Train,
+    Kind::LastTrain,
+];
+
 fn vehicle(kind: Kind, sender: Station, form: u16) -> Vehicle {
     Vehicle {
         left_on: Some(kind),
@@ -13,12 +23,13 @@ fn vehicle(kind: Kind, sender: Station, form: u16) -> Vehicle {
         heading: sender.other().number(),
         met: false,
         class: match kind {
-            Kind::Train => 0,
+            Kind::Train | Kind::LastTrain => 0,
             Kind::Through => 1,
             _ => 5,
         },
         asked: u8::from(kind == Kind::Open) * 8,
         granted: 0,
+        given_up: u8::from(kind == Kind::LastTrain) * 7,
     }
 }
 
@@ -48,11 +59,10 @@ fn with_vehicles(vehicles: &[Vehicle]) -> Section {
 
 /// One vehicle of each kind from either station, each figure at its largest.
 fn crowded() -> Section {
-    let kinds = [Kind::Open, Kind::Through, Kind::Return, Kind::Train];
     let of = |sender| {
-        kinds
+        KINDS
             .iter()
-            .zip([1, 9_999, 3, 2])
+            .zip([1, 9_999, 3, 2, 4])
             .map(move |(&kind, form)| vehicle(kind, sender, form))
     };
     let vehicles: Vec<Vehicle> = of(A).chain(of(B)).collect();
@@ -138,8 +148,8 @@ fn a_running_interval_is_not_later_than_its_own_clock() {
 #[test]
 fn sent_is_at_least_the_vehicles_present() {
     for place in [0, 1] {
-        alter(true, |section| section.desks[place].sent = 4);
-        alter(false, |section| section.desks[place].sent = 3);
+        alter(true, |section| section.desks[place].sent = 5);
+        alter(false, |section| section.desks[place].sent = 4);
     }
 }
 
@@ -161,16 +171,16 @@ fn form_numbers_are_given_out_and_differ() {
     // The same number twice from one station, neighbours or not.
     alter(false, |section| section.places[0].form = 9_999);
     alter(false, |section| section.places[3].form = 1);
-    alter(false, |section| section.places[7].form = 1);
+    alter(false, |section| section.places[8].form = 1);
     // In no order, and the same numbers from the other station.
     alter(true, |section| section.places[0].form = 5_000);
 }
 
 #[test]
 fn unmet_vehicles_head_away_from_their_sender() {
-    for place in 0..8 {
-        let without_line_clear = place % 4 < 2;
-        let own = if place < 4 { 1 } else { 2 };
+    for place in 0..10 {
+        let without_line_clear = place % 5 < 2;
+        let own = if place < 5 { 1 } else { 2 };
         alter(false, |section| section.places[place].heading = own);
         for wrong in [0, 3, u8::MAX] {
             alter(false, |section| section.places[place].heading = wrong);
@@ -198,6 +208,7 @@ fn classes_fit_what_a_vehicle_left_on() {
         alter(class == 1, |section| section.places[1].class = class);
         alter(one_to_five, |section| section.places[2].class = class);
         alter(class == 0, |section| section.places[3].class = class);
+        alter(class == 0, |section| section.places[4].class = class);
     }
 }
 
@@ -210,7 +221,7 @@ fn messages_fit_what_a_vehicle_left_on() {
         alter(figure == 0, |section| section.places[0].granted = figure);
         alter(figure == 0, |section| section.places[1].asked = figure);
         alter(figure == 0, |section| section.places[1].granted = figure);
-        for place in [2, 3] {
+        for place in [2, 3, 4] {
             alter(in_range, |section| section.places[place].asked = figure);
             alter(in_range, |section| section.places[place].granted = figure);
         }
@@ -218,24 +229,46 @@ fn messages_fit_what_a_vehicle_left_on() {
 }
 
 #[test]
+fn only_a_last_train_has_line_clears_given_up() {
+    for place in 0..10 {
+        for figure in 0..=9 {
+            let most = if place % 5 == 4 { 7 } else { 0 };
+            alter(figure <= most, |section| {
+                section.places[place].given_up = figure;
+            });
+        }
+        alter(false, |section| section.places[place].given_up = u8::MAX);
+    }
+    // A last train with none given up differs from a TRAIN by its kind alone.
+    for given_up in [0, 1] {
+        alter(given_up == 0, |section| {
+            section.places[4].left_on = Some(Kind::Train);
+            section.places[4].given_up = given_up;
+        });
+    }
+}
+
+#[test]
 fn a_vehicle_has_a_sender_and_left_on_a_departure() {
-    for place in [0, 7] {
+    for place in [0, 9] {
         for wrong in [0, 3, u8::MAX] {
             alter(false, |section| section.places[place].sender = wrong);
         }
     }
-    alter(false, |section| section.places[7].left_on = None);
+    alter(false, |section| section.places[9].left_on = None);
     for kind in [Kind::Begin, Kind::Receive, Kind::Meet, Kind::Resume] {
-        alter(false, |section| section.places[7].left_on = Some(kind));
+        alter(false, |section| section.places[9].left_on = Some(kind));
     }
 }
 
 #[test]
 fn unused_places_are_zero() {
-    alter(false, |section| section.places[8].form = 1);
+    alter(false, |section| section.places[10].form = 1);
+    alter(false, |section| section.places[10].given_up = 1);
+    alter(false, |section| section.places[23].given_up = 7);
     alter(false, |section| section.places[23].met = true);
-    alter(false, |section| section.present = 7);
     alter(false, |section| section.present = 9);
+    alter(false, |section| section.present = 11);
     alter(false, |section| section.present = 25);
 }
 
@@ -261,7 +294,7 @@ fn not_in_force_all_but_the_counts_is_fresh() {
         ..Section::fresh()
     };
     is_well_made(&fresh);
-    let alterations: [fn(&mut Section); 9] = [
+    let alterations: [fn(&mut Section); 10] = [
         |section| section.desks[0].clock = 1,
         |section| section.desks[1].last_form = 1,
         |section| section.desks[0].interval = Some(0),
@@ -270,6 +303,7 @@ fn not_in_force_all_but_the_counts_is_fresh() {
         |section| section.desks[0].waiting = 1,
         |section| section.desks[1].waiting = 1,
         |section| section.places[23].granted = 1,
+        |section| section.places[0].given_up = 1,
         |section| section.present = 1,
     ];
     for alteration in alterations {

@@ -80,11 +80,12 @@ fn near_their_largest() -> Vec<Refused> {
 
 /// Entries of this station that [`working`] refuses, one of each kind that is
 /// counted for a station.
-fn entries_of(station: Station) -> [Entry; 5] {
+fn entries_of(station: Station) -> [Entry; 6] {
     [
         Entry::open(station, 510, 1, 1, 1),
         Entry::through(station, 510, 1),
         Entry::send_back(station, 510, 0, 0),
+        Entry::last_train(station, 510, 1, 0, 1),
         Entry::train(station, 499, 1, 0, 0),
         Entry::receive(station, 510, station, 40),
     ]
@@ -95,7 +96,7 @@ pub(super) fn no_entries_of(station: Station) -> [Vec<u8>; 4] {
     let station = station.number();
     [
         vec![0x0F, 5, station],
-        vec![0x07, 9, station, 0, 10],
+        vec![0x07, 10, station, 0, 10],
         vec![0x07, 5, station, 0, 10],
         vec![0x3F, 2, station, 0, 10, 1, 1, 9],
     ]
@@ -140,6 +141,7 @@ fn leaving_all_alone(refused: Refused) -> Vec<Handed> {
         hand(counted(begun()), &Entry::resume()),
         hand(counted(working()), &working_meeting()),
         hand(counted(working()), &working_train(A)),
+        hand(counted(working()), &Entry::last_train(B, 510, 1, 0, 0)),
         hand(counted(working()), &working_receipt(B)),
         hand(
             counted(with_desk(A, |desk| desk.sent = 13)),
@@ -198,14 +200,14 @@ mod tests {
 
     #[test]
     fn the_sorts_are_refused_and_counted_as_the_readings_say() {
-        let station = [10, 10, 11, 9, 20, 7, 7, 22, 7, 1, 2, 3, 4];
+        let station = [10, 10, 11, 16, 9, 20, 7, 7, 7, 22, 7, 1, 2, 3, 4];
         let none = [6, 8, 7, 1];
         let handed = of_every_sort(DISTINCT);
         assert_eq!(answers(&handed), [&station[..], &station, &none].concat());
         let expected = [
-            vec![[1, 0, 0]; 7],
+            vec![[1, 0, 0]; 9],
             vec![[0, 0, 1]; 6],
-            vec![[0, 1, 0]; 7],
+            vec![[0, 1, 0]; 9],
             vec![[0, 0, 1]; 6 + 4],
         ];
         assert_eq!(growths(&handed), expected.concat());
@@ -225,8 +227,8 @@ mod tests {
     #[test]
     fn accepted_entries_and_5_leave_all_three() {
         let handed = leaving_all_alone(DISTINCT);
-        assert_eq!(answers(&handed), [0, 0, 0, 0, 0, 5]);
-        assert_eq!(growths(&handed), [[0; 3]; 6]);
+        assert_eq!(answers(&handed), [0, 0, 0, 0, 0, 0, 5]);
+        assert_eq!(growths(&handed), [[0; 3]; 7]);
     }
 
     #[test]

@@ -19,6 +19,7 @@ const ACCEPTED_SEEDS: [u64; 4] = [5, 7, 9, 4];
 pub(super) fn cases() -> Vec<Case> {
     let mut logs = vec![SESSION.concat(), Vec::new()];
     logs.extend(accepted().iter().map(|entries| written(entries)));
+    logs.extend(GIVEN_UP.map(<[u8]>::to_vec));
     logs.extend(refused().iter().map(|entries| written(entries)));
     logs.push(edges());
     logs.extend(bytes_refused());
@@ -55,6 +56,8 @@ fn accepted() -> Vec<Vec<Entry>> {
         trains_with_grants(),
         replies_ahead(),
         mirrored(&replies_ahead()),
+        given_up(),
+        mirrored(&given_up()),
         mirrored(&guests()),
         meetings(),
         meetings_of_one_sender(),
@@ -79,7 +82,7 @@ fn every_kind() -> Vec<Entry> {
         Entry::receive(A, 300, B, 2),
         Entry::receive(A, 300, B, 3),
         Entry::receive(A, 300, B, 4),
-        Entry::train(A, 300, 1, 0, 0),
+        Entry::last_train(A, 300, 1, 0, 0),
         Entry::receive(B, 300, A, 4),
         Entry::through(A, 330, 2),
         Entry::through(B, 330, 3),
@@ -156,6 +159,64 @@ fn replies_ahead() -> Vec<Entry> {
         Entry::receive(A, 0, B, 1),
     ]
 }
+
+/// Line clears given up with the first train of a series, with one in its middle
+/// and with its last (T-03).
+fn given_up() -> Vec<Entry> {
+    vec![
+        Entry::begin(),
+        Entry::open(A, 0, 1, 1, 8),
+        Entry::receive(B, 0, A, 1),
+        Entry::send_back(B, 0, 4, 8),
+        Entry::receive(A, 0, B, 1),
+        // All but one are given up; the reply for four is held at once.
+        Entry::last_train(A, 0, 1, 5, 4),
+        Entry::receive(B, 20, A, 2),
+        // Of B's four the first grants three and the second is its last.
+        Entry::train(B, 20, 1, 0, 3),
+        Entry::last_train(B, 50, 2, 6, 0),
+        // The three wait while A still owes, and no longer.
+        Entry::receive(A, 40, B, 2),
+        Entry::receive(A, 70, B, 3),
+        Entry::train(A, 70, 1, 0, 0),
+        Entry::train(A, 100, 1, 0, 0),
+        // The third of three gives none up, and grants six.
+        Entry::last_train(A, 130, 3, 0, 6),
+        Entry::receive(B, 90, A, 3),
+        Entry::receive(B, 120, A, 4),
+        Entry::receive(B, 150, A, 5),
+        // Five are given up, and end with the working.
+        Entry::last_train(B, 150, 1, 0, 0),
+        Entry::receive(A, 160, B, 4),
+        Entry::open(A, 160, 1, 1, 1),
+        Entry::receive(A, 160, A, 6),
+        Entry::resume(),
+    ]
+}
+
+/// Lists in which line clears given up stand in the sum of those owed, and in
+/// which the last train releases what waits at the other end.
+const GIVEN_UP: [&[u8]; 2] = [
+    &[
+        0x01, 0x01, //
+        0x3F, 0x02, 0x01, 0x00, 0x00, 0x02, 0x05, 0x04, //
+        0x87, 0x06, 0x02, 0x00, 0x01, 0x01, 0x00, 0x01, //
+        0x47, 0x04, 0x02, 0x00, 0x02, 0x03, //
+        0x87, 0x06, 0x01, 0x00, 0x01, 0x02, 0x00, 0x01, //
+        0x2F, 0x09, 0x01, 0x00, 0x01, 0x03, 0x07,
+    ],
+    &[
+        0x01, 0x01, //
+        0x3F, 0x02, 0x01, 0x00, 0x03, 0x01, 0x02, 0x07, //
+        0x87, 0x06, 0x02, 0x00, 0x01, 0x01, 0x00, 0x01, //
+        0x67, 0x04, 0x02, 0x00, 0x01, 0x01, 0x07, //
+        0x87, 0x06, 0x01, 0x00, 0x03, 0x02, 0x00, 0x01, //
+        0x6F, 0x05, 0x01, 0x00, 0x03, 0x01, 0x05, 0x01, //
+        0x87, 0x06, 0x02, 0x00, 0x03, 0x01, 0x00, 0x02, //
+        0x0F, 0x09, 0x01, 0x00, 0x21, 0x01, //
+        0x87, 0x06, 0x02, 0x00, 0x06, 0x01, 0x00, 0x03,
+    ],
+];
 
 /// Openers of every class as guests, sent back with and without messages.
 fn guests() -> Vec<Entry> {
@@ -247,6 +308,8 @@ fn refused() -> Vec<Vec<Entry>> {
         refused_throughout(),
         mirrored(&refused_throughout()),
         refused_while_clears_wait(),
+        refused_last_trains(),
+        mirrored(&refused_last_trains()),
         refused_meetings(),
         twelve_of_each(),
     ]
@@ -262,6 +325,7 @@ fn refused_throughout() -> Vec<Entry> {
         Entry::send_back(B, 1, 0, 0),
         Entry::train(B, 1, 1, 0, 0),
         Entry::receive(A, 1, B, 1),
+        Entry::last_train(B, 1, 1, 0, 0),
     ]);
     // 6, and with an empty section 20, 14 and 15.
     entries.extend([
@@ -339,6 +403,47 @@ fn refused_while_clears_wait() -> Vec<Entry> {
         // B holds them: 11.
         Entry::through(B, 50, 1),
         Entry::train(B, 50, 1, 0, 0),
+    ]
+}
+
+/// Every refusal of a last train that a short log reaches, and what is refused
+/// behind one.
+fn refused_last_trains() -> Vec<Entry> {
+    vec![
+        // 7 and, in force, 15.
+        Entry::last_train(A, 1, 1, 0, 0),
+        Entry::begin(),
+        Entry::last_train(A, 1, 1, 0, 0),
+        Entry::open(A, 10, 1, 2, 4),
+        Entry::receive(B, 70, A, 1),
+        Entry::send_back(B, 75, 3, 4),
+        Entry::receive(A, 95, B, 1),
+        // A holds four and is asked for three: 9, 16, and 19 behind a train.
+        Entry::last_train(A, 94, 1, 0, 3),
+        Entry::last_train(A, 95, 1, 0, 4),
+        Entry::train(A, 95, 1, 0, 2),
+        Entry::last_train(A, 124, 1, 0, 0),
+        // A owes two: 16. Without a reply it goes, and gives up two.
+        Entry::last_train(A, 125, 1, 0, 1),
+        Entry::last_train(A, 125, 1, 7, 0),
+        // Nothing is held any more: 15, of either kind.
+        Entry::train(A, 155, 1, 0, 0),
+        Entry::last_train(A, 155, 1, 0, 0),
+        // Its own may not come back: 21. B has to take the first one first: 20.
+        Entry::receive(A, 155, A, 3),
+        Entry::receive(B, 100, A, 3),
+        Entry::receive(B, 100, A, 2),
+        // Two wait at B, which still owes three: 15 and 12.
+        Entry::last_train(B, 100, 1, 0, 0),
+        Entry::through(B, 100, 1),
+        Entry::receive(B, 150, A, 3),
+        // B owes none and holds the two: 11.
+        Entry::through(B, 150, 1),
+        // It gives one up and brings no reply: 8, and 15 once it is in.
+        Entry::last_train(B, 150, 1, 0, 0),
+        Entry::resume(),
+        Entry::receive(A, 200, B, 2),
+        Entry::last_train(A, 200, 1, 0, 0),
     ]
 }
 
@@ -535,7 +640,7 @@ mod tests {
         let mut kinds: Vec<u8> = every_kind().iter().map(|entry| entry.kind).collect();
         kinds.sort_unstable();
         kinds.dedup();
-        assert_eq!(kinds, [1, 2, 3, 4, 5, 6, 7, 8]);
+        assert_eq!(kinds, [1, 2, 3, 4, 5, 6, 7, 8, 9]);
     }
 
     #[test]
@@ -547,13 +652,19 @@ mod tests {
                 .collect()
         };
         let throughout = [
-            7, 7, 7, 7, 7, 7, 0, 6, 20, 20, 14, 15, 0, 8, 9, 10, 10, 9, 20, 20, 0, 13, 13, 15, 16,
-            9, 0, 14, 12, 12, 21, 0, 11, 11, 11, 16, 0, 19, 21, 16, 0, 15, 8,
+            7, 7, 7, 7, 7, 7, 7, 0, 6, 20, 20, 14, 15, 0, 8, 9, 10, 10, 9, 20, 20, 0, 13, 13, 15,
+            16, 9, 0, 14, 12, 12, 21, 0, 11, 11, 11, 16, 0, 19, 21, 16, 0, 15, 8,
         ];
         assert_eq!(numbers(&refused_throughout()), throughout);
         assert_eq!(numbers(&mirrored(&refused_throughout())), throughout);
         let waiting = [0, 0, 0, 0, 0, 0, 0, 15, 12, 16, 0, 0, 11, 0];
         assert_eq!(numbers(&refused_while_clears_wait()), waiting);
+        let last_trains = [
+            7, 0, 15, 0, 0, 0, 0, 9, 16, 0, 19, 16, 0, 15, 15, 21, 20, 0, 15, 12, 0, 11, 0, 8, 0,
+            15,
+        ];
+        assert_eq!(numbers(&refused_last_trains()), last_trains);
+        assert_eq!(numbers(&mirrored(&refused_last_trains())), last_trains);
         let meetings = [
             7, 0, 22, 0, 22, 0, 22, 0, 22, 22, 0, 22, 20, 20, 0, 0, 0, 21, 20, 0, 0, 0, 0, 22,
         ];
@@ -586,6 +697,34 @@ mod tests {
         expected[6..=10].fill((0, 2));
         let list = written(&refused_while_clears_wait());
         assert_eq!(waiting(&list), expected);
+    }
+
+    /// Line clears given up on their way to A and to B after each entry.
+    fn given_up_towards(log: &[u8]) -> Vec<(u8, u8)> {
+        let mut run = Run::new(log);
+        let mut given_up = Vec::new();
+        while run.next().is_some() {
+            let section = run.section();
+            let sum = |sender| section.sent_by(sender).map(|train| train.given_up).sum();
+            given_up.push((sum(B), sum(A)));
+        }
+        given_up
+    }
+
+    #[test]
+    fn clears_are_given_up_until_the_last_train_is_in() {
+        let mut expected = vec![(0, 0); 22];
+        expected[5] = (0, 7);
+        expected[8..=9].fill((2, 0));
+        expected[17] = (5, 0);
+        assert_eq!(given_up_towards(&written(&given_up())), expected);
+        let mut expected = vec![(0, 0); 22];
+        expected[9] = (3, 0);
+        assert_eq!(waiting(&written(&given_up())), expected);
+        let [first, second] = GIVEN_UP.map(given_up_towards);
+        assert_eq!(first, [(0, 0), (0, 0), (0, 0), (0, 0), (0, 0), (0, 2)]);
+        assert_eq!(second[7..], [(0, 5), (0, 0)]);
+        assert_eq!(waiting(GIVEN_UP[1])[6..], [(0, 1), (0, 1), (0, 0)]);
     }
 
     #[test]
@@ -641,5 +780,9 @@ mod tests {
         let clears_wait = |log: &&Vec<u8>| waiting(log).iter().any(|&clears| clears != (0, 0));
         let with_clears_waiting = logs.iter().filter(clears_wait).count();
         assert!(with_clears_waiting >= 5, "{with_clears_waiting}");
+        let clears_given_up =
+            |log: &&Vec<u8>| given_up_towards(log).iter().any(|&clears| clears != (0, 0));
+        let with_clears_given_up = logs.iter().filter(clears_given_up).count();
+        assert!(with_clears_given_up >= 5, "{with_clears_given_up}");
     }
 }

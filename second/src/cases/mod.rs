@@ -8,6 +8,7 @@
 //! step of this crate.
 
 mod counts;
+mod given_up;
 mod logs;
 mod positions;
 mod sections;
@@ -40,14 +41,14 @@ const SESSION: [&[u8]; 8] = [
 ];
 
 /// Bytes as long as their map says that are no entry, with their refusal.
-const NO_ENTRIES: [(u8, &[u8]); 15] = [
+const NO_ENTRIES: [(u8, &[u8]); 18] = [
     (2, &[0x00]),
     (3, &[0x01, 2]),
     (4, &[0x07, 4, 0, 0, 10]),
     (2, &[0x01, 0]),
     (3, &[0x03, 1, 1]),
     (4, &[0x07, 4, 3, 0, 10]),
-    (2, &[0x01, 9]),
+    (2, &[0x01, 10]),
     (3, &[0x7F, 2, 1, 0, 10, 1, 1, 1, 1]),
     (4, &[0x3F, 2, 1, 0, 10, 1, 1, 9]),
     (2, &[0x86, 1, 0, 1, 1, 0, 1]),
@@ -56,6 +57,11 @@ const NO_ENTRIES: [(u8, &[u8]); 15] = [
     (2, &[0xFF, 255, 1, 0, 1, 1, 1, 1, 1, 1, 0, 1]),
     (3, &[0xFF, 8, 9, 9, 9, 9, 9, 9, 9, 9, 9, 9]),
     (4, &[0x83, 7, 1, 1, 0x27, 0x10]),
+    // The kind behind the last, and the last with another map and a field out of
+    // its range.
+    (2, &[0x0F, 10, 1, 0, 10, 1]),
+    (3, &[0x01, 9]),
+    (4, &[0x6F, 9, 1, 0, 10, 1, 8, 9]),
 ];
 
 /// One stored case.

@@ -29,11 +29,29 @@ fn logs() -> Vec<Vec<u8>> {
         [&no_entries[..], &[0x01, 0x08]].concat(),
         [&[0x01, 0x01], &no_entries[..20]].concat(),
         // The longest entries, of which none is one.
-        NO_ENTRIES[12..]
+        NO_ENTRIES[12..15]
             .iter()
             .flat_map(|(_, bytes)| bytes.to_vec())
             .collect(),
+        last_trains(),
     ]
+}
+
+/// Kind 9 with each of its maps, then with another map, with a field out of its
+/// range, and cut; and the kinds beside it.
+fn last_trains() -> Vec<u8> {
+    let entries: [&[u8]; 9] = [
+        &[0x0F, 9, 1, 0, 10, 1],
+        &[0x2F, 9, 2, 0, 10, 2, 8],
+        &[0x4F, 9, 1, 0, 10, 3, 1],
+        &[0x6F, 9, 2, 0xFF, 0xFF, 1, 1, 8],
+        &[0x07, 9, 1, 0, 10],
+        &[0x0F, 9, 1, 0, 10, 4],
+        &[0x0F, 8, 1, 0, 10, 1],
+        &[0x0F, 10, 1, 0, 10, 1],
+        &[0x0F, 9, 1, 0, 10],
+    ];
+    entries.concat()
 }
 
 /// At the start, at the start of an entry or inside it, at the end, just past

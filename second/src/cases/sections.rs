@@ -3,7 +3,7 @@
 use std::collections::BTreeMap;
 
 use super::counts::{self, DISTINCT};
-use super::{waiting, Case, LONGEST, NO_ENTRIES};
+use super::{given_up, waiting, Case, LONGEST, NO_ENTRIES};
 use crate::entry::{decode, Entry, Kind};
 use crate::generator::{any_section, bytes_of, Generator, Options};
 use crate::random::Random;
@@ -19,7 +19,13 @@ pub(super) type Handed = (Section, Vec<u8>);
 type Alteration = fn(&mut Vehicle);
 
 /// The kinds of departure, by which a vehicle can have left.
-const DEPARTURES: [Kind; 4] = [Kind::Open, Kind::Through, Kind::Return, Kind::Train];
+const DEPARTURES: [Kind; 5] = [
+    Kind::Open,
+    Kind::Through,
+    Kind::Return,
+    Kind::Train,
+    Kind::LastTrain,
+];
 
 const ALL_AT_THEIR_LARGEST: Refused = Refused {
     for_a: u32::MAX,
@@ -34,6 +40,7 @@ pub(super) fn cases() -> Vec<Case> {
     handed.extend(desks_at_their_limits());
     handed.extend(receipts());
     handed.extend(waiting::handed());
+    handed.extend(given_up::handed());
     handed.extend(meetings());
     handed.extend(counts::handed());
     handed.extend(edges());
@@ -59,11 +66,12 @@ pub(super) fn vehicle(kind: Kind, sender: Station, form: u16) -> Vehicle {
         met: false,
         class: match kind {
             Kind::Through => 1,
-            Kind::Train => 0,
+            Kind::Train | Kind::LastTrain => 0,
             _ => 3,
         },
         asked: if kind == Kind::Open { 4 } else { 0 },
         granted: 0,
+        given_up: if kind == Kind::LastTrain { 2 } else { 0 },
     }
 }
 
@@ -84,7 +92,7 @@ pub(super) fn begun() -> Section {
     }
 }
 
-fn put_vehicles(section: &mut Section, vehicles: &[Vehicle]) {
+pub(super) fn put_vehicles(section: &mut Section, vehicles: &[Vehicle]) {
     section.places[..vehicles.len()].copy_from_slice(vehicles);
     section.present = vehicles.len();
 }
@@ -98,8 +106,10 @@ pub(super) fn working() -> Section {
         vehicle(Kind::Open, A, 7),
         vehicle(Kind::Return, A, 5),
         vehicle(Kind::Train, A, 3),
+        vehicle(Kind::LastTrain, A, 2),
         vehicle(Kind::Through, A, 9),
         vehicle(Kind::Open, B, 9),
+        vehicle(Kind::LastTrain, B, 2),
         vehicle(Kind::Train, B, 4),
         vehicle(Kind::Return, B, 6),
         vehicle(Kind::Through, B, 8),
@@ -216,7 +226,7 @@ fn uncounted_vehicles(station: Station) -> Vec<Handed> {
     );
     vec![
         hand(
-            with_desk(station, |desk| desk.sent = 3),
+            with_desk(station, |desk| desk.sent = 4),
             &working_receipt(station),
         ),
         hand(with_desk(station, |desk| desk.sent = 0), &working_meeting()),
@@ -340,11 +350,11 @@ fn ill_made_places() -> Vec<Handed> {
         .into();
     // Fewer than there are.
     sections.push(Section {
-        present: 7,
+        present: 9,
         ..working()
     });
     sections.push(Section {
-        present: 5,
+        present: 6,
         ..working()
     });
     // Behind the last vehicle, and in the last place.
@@ -367,10 +377,12 @@ fn ill_made_places() -> Vec<Handed> {
         unused(Kind::Return, |_| {}),
         unused(Kind::Train, |_| {}),
         unused(Kind::Train, |place| place.granted = 1),
+        unused(Kind::LastTrain, |_| {}),
+        unused(Kind::LastTrain, |place| place.given_up = 1),
         vehicle(Kind::Through, B, 10),
     ];
     for (number, stray) in strays.into_iter().enumerate() {
-        let place = if number % 2 == 0 { 8 } else { 23 };
+        let place = if number % 2 == 0 { 10 } else { 23 };
         let mut section = working();
         section.places[place] = stray;
         sections.push(section);
@@ -470,10 +482,10 @@ fn crammed() -> Section {
         Kind::Return,
         Kind::Through,
         Kind::Train,
-        Kind::Train,
+        Kind::LastTrain,
         Kind::Return,
         Kind::Open,
-        Kind::Train,
+        Kind::LastTrain,
         Kind::Through,
         Kind::Train,
         Kind::Open,
@@ -486,6 +498,9 @@ fn crammed() -> Section {
                 Kind::Open => (vehicle.class, vehicle.asked) = (5, 8),
                 Kind::Return => (vehicle.class, vehicle.asked, vehicle.granted) = (5, 8, 8),
                 Kind::Train => (vehicle.asked, vehicle.granted) = (8, 8),
+                Kind::LastTrain => {
+                    (vehicle.asked, vehicle.granted, vehicle.given_up) = (8, 8, 7);
+                }
                 _ => {}
             }
             vehicle
@@ -524,6 +539,7 @@ fn crammed_cases() -> Vec<Handed> {
         Entry::train(A, LAST, 1, 8, 0),
         Entry::train(B, LAST, 1, 8, 1),
         Entry::train(B, LAST - 1, 1, 0, 0),
+        Entry::last_train(A, LAST, 1, 8, 0),
         Entry::receive(A, LAST, A, 9_999),
         Entry::receive(B, LAST, B, 9_999),
         Entry::receive(A, LAST, B, 9_999),
@@ -548,7 +564,9 @@ fn crammed_cases() -> Vec<Handed> {
             interval: None,
             ..*section.desk(station)
         };
-        handed.push(hand(section, &Entry::train(station, LAST, 1, 8, 0)));
+        let train = Entry::train(station, LAST, 1, 8, 0);
+        let last_train = Entry::last_train(station, LAST, 1, 8, 0);
+        handed.extend([train, last_train].map(|entry| hand(section.clone(), &entry)));
     }
     handed
 }
@@ -590,7 +608,9 @@ fn desk_at_its_limits(station: Station) -> Vec<Handed> {
             },
             Entry::send_back(station, 0, 8, 8),
         );
-        at(Desk { holds: 8, ..desk }, Entry::train(station, 0, 3, 8, 0));
+        let holding = Desk { holds: 8, ..desk };
+        at(holding, Entry::train(station, 0, 3, 8, 0));
+        at(holding, Entry::last_train(station, 0, 3, 8, 0));
     }
     // 17 before 18 before 19.
     let worn = Desk {
@@ -625,6 +645,11 @@ fn desk_at_its_limits(station: Station) -> Vec<Handed> {
             ..desk
         },
         Entry::send_back(station, 0, 0, 0),
+    );
+    // 14 before 16.
+    at(
+        Desk { asked: 7, ..desk },
+        Entry::send_back(station, 0, 0, 8),
     );
     let held = Desk {
         asked: 8,
@@ -845,7 +870,7 @@ fn meetings() -> Vec<Handed> {
         for other in DEPARTURES {
             meet(vehicle(without, A, 2), vehicle(other, B, 2), A);
         }
-        for with in [Kind::Return, Kind::Train] {
+        for with in [Kind::Return, Kind::Train, Kind::LastTrain] {
             meet(vehicle(with, A, 2), vehicle(without, B, 2), B);
         }
     }
@@ -1046,12 +1071,12 @@ mod tests {
     #[test]
     fn the_answers_are_those_of_the_document() {
         let crammed = [
-            6, 8, 10, 10, 11, 17, 16, 9, 0, 0, 20, 9, 0, 22, 22, 1, 0, 0, 0,
+            6, 8, 10, 10, 11, 17, 16, 9, 17, 0, 0, 20, 9, 0, 22, 22, 1, 0, 0, 0, 0, 0,
         ];
         assert_eq!(answers(&crammed_cases()), crammed);
         let desk = [
-            17, 0, 0, 0, 0, 0, 18, 18, 18, 18, 17, 18, 19, 16, 0, 0, 16, 16, 10, 11, 12, 13, 0, 9,
-            19, 19, 0, 19, 0,
+            17, 0, 0, 0, 0, 0, 0, 18, 18, 18, 18, 18, 17, 18, 19, 16, 0, 14, 0, 16, 16, 10, 11, 12,
+            13, 0, 9, 19, 19, 0, 19, 0,
         ];
         assert_eq!(answers(&desks_at_their_limits()), [desk, desk].concat());
         let receipt = [
@@ -1059,7 +1084,8 @@ mod tests {
         ];
         assert_eq!(answers(&receipts()), [receipt, receipt].concat());
         let meeting = [
-            0, 0, 22, 22, 22, 22, 0, 0, 22, 22, 22, 22, 22, 0, 0, 0, 0, 22, 22, 22, 22, 22, 22, 22,
+            0, 0, 22, 22, 22, 22, 22, 22, 0, 0, 22, 22, 22, 22, 22, 22, 22, 0, 0, 0, 0, 22, 22, 22,
+            22, 22, 22, 22,
         ];
         assert_eq!(answers(&meetings()), meeting);
         assert_eq!(answers(&edges()), [1, 2, 1, 2, 0, 17, 0]);
@@ -1068,11 +1094,11 @@ mod tests {
     #[test]
     fn strewn_sections_have_every_kind_accepted_and_refused() {
         let handed = strewn();
-        assert_eq!(handed.len(), 6 * 20 + 2 * 4 + 4 * 2);
+        assert_eq!(handed.len(), 7 * 20 + 2 * 4 + 4 * 2);
         let accepted = answers(&handed)
             .iter()
             .filter(|&&answer| answer == 0)
             .count();
-        assert_eq!(accepted, 6 * 10 + 2 * 2);
+        assert_eq!(accepted, 7 * 10 + 2 * 2);
     }
 }

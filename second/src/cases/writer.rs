@@ -53,6 +53,10 @@ fn taken() -> Vec<Entry> {
         Entry::train(A, 1, 2, 1, 0),
         Entry::train(B, 0x1234, 3, 0, 1),
         Entry::train(A, u16::MAX, 3, 8, 8),
+        Entry::last_train(A, 0, 1, 0, 0),
+        Entry::last_train(B, 1, 2, 8, 0),
+        Entry::last_train(A, 0x1234, 3, 0, 8),
+        Entry::last_train(B, u16::MAX, 3, 1, 1),
         Entry::receive(A, 0, B, 1),
         Entry::receive(B, u16::MAX, A, 9_999),
         Entry::meet(A, A, 1),
@@ -117,8 +121,8 @@ fn refused() -> Vec<Entry> {
     entries
 }
 
-/// An entry of each kind; RETURN and TRAIN with all that they may carry and with
-/// nothing of it.
+/// An entry of each kind; RETURN, TRAIN and LAST TRAIN with all that they may carry
+/// and with nothing of it.
 fn one_of_each_kind() -> Vec<Entry> {
     vec![
         Entry::begin(),
@@ -128,6 +132,8 @@ fn one_of_each_kind() -> Vec<Entry> {
         Entry::send_back(A, 10, 2, 3),
         Entry::train(B, 10, 2, 0, 0),
         Entry::train(B, 10, 2, 2, 3),
+        Entry::last_train(A, 10, 2, 0, 0),
+        Entry::last_train(A, 10, 2, 2, 3),
         Entry::receive(A, 10, B, 4),
         Entry::meet(B, A, 4),
         Entry::resume(),
@@ -144,7 +150,7 @@ fn without_a_kind() -> Vec<Entry> {
             ..Entry::begin()
         },
         Entry {
-            kind: 9,
+            kind: 10,
             ..Entry::begin()
         },
         Entry {
@@ -152,13 +158,16 @@ fn without_a_kind() -> Vec<Entry> {
             ..Entry::begin()
         },
         Entry { kind: 0, ..open },
-        Entry { kind: 9, ..open },
+        Entry { kind: 10, ..open },
         Entry {
             map: 0xFF,
-            kind: 9,
+            kind: 10,
             ..open
         },
     ];
+    // The kinds beside kind 9, and far from it, with all that it has.
+    let last = Entry::last_train(A, 10, 2, 2, 3);
+    entries.extend([0, 10, u8::MAX].map(|kind| Entry { kind, ..last }));
     for entry in one_of_each_kind() {
         let map = entry.map & !bit::KIND;
         entries.push(Entry { map, ..entry });
@@ -282,10 +291,16 @@ fn with_several_faults() -> Vec<Entry> {
         form: 10_000,
     };
     vec![
-        // 2, then 3, then 4.
-        Entry { kind: 9, ..wrong },
+        // 2, then 3, then 4; 3 and 4 of kind 9 as well.
+        Entry { kind: 10, ..wrong },
         wrong,
         Entry { map: 0x3F, ..wrong },
+        Entry { kind: 9, ..wrong },
+        Entry {
+            kind: 9,
+            map: 0x6F,
+            ..wrong
+        },
     ]
 }
 
@@ -314,7 +329,7 @@ mod tests {
             }
         }
         let several: Vec<u8> = with_several_faults().iter().map(refusal).collect();
-        assert_eq!(several, [2, 3, 4]);
+        assert_eq!(several, [2, 3, 4, 3, 4]);
     }
 
     #[test]
@@ -325,6 +340,6 @@ mod tests {
             .collect();
         maps.sort_unstable();
         maps.dedup();
-        assert_eq!(maps.len(), 6 + 2 * 4);
+        assert_eq!(maps.len(), 6 + 3 * 4);
     }
 }

@@ -9,7 +9,7 @@ use crate::section::{Desk, Refused, Section, Vehicle};
 
 /// The bytes of one place: kind, asked, granted, sender, form number (2),
 /// heading, met, class, given up.
-const PLACE_LENGTH: usize = 10;
+pub(crate) const PLACE_LENGTH: usize = 10;
 
 /// The bytes of one desk: clock (2), last form number (2), sent, interval
 /// running, its minute (2), out, guest, asked, holds, owes, waiting.

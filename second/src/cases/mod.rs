@@ -18,7 +18,7 @@ mod writer;
 use std::fmt::{self, Write};
 
 use crate::entry::{encode, Entry};
-use crate::figures::{digest, Figures};
+use crate::figures::{digest, Figures, PLACE_LENGTH};
 use crate::lister::Printed;
 use crate::log::{Reader, Writer};
 use crate::refusal::Refusal;
@@ -312,7 +312,23 @@ fn write_answer(
 }
 
 fn write_section(out: &mut impl Write, form: &str, section: &Section) -> fmt::Result {
-    writeln!(out, "{form} {}", Hex(&figures_of(section)))
+    writeln!(out, "{form} {}", section_in_hex(section))
+}
+
+/// A section as the lines hold it: what stands behind its places, then its places
+/// up to the last that is not all zero.
+///
+/// The other program's output has a limit of 1,048,576 bytes. Most places of most
+/// sections are unused, and with them the lines would be longer than that. What may
+/// be left out stands at the end, so that the rest is where it always is.
+fn section_in_hex(section: &Section) -> String {
+    let figures = figures_of(section);
+    let (places, behind) = figures.split_at(Section::MOST_VEHICLES * PLACE_LENGTH);
+    let last = places
+        .chunks(PLACE_LENGTH)
+        .rposition(|place| place.iter().any(|&figure| figure != 0));
+    let written = last.map_or(0, |last| last + 1);
+    format!("{}{}", Hex(behind), Hex(&places[..written * PLACE_LENGTH]))
 }
 
 /// Bytes in hex; of no bytes, nothing.

@@ -1,5 +1,5 @@
 // A section in figures: the bytes of docs/CASES.md, at the front of a case's head.
-ghost use Prim.Native.Nat.{_*_, _+_, _≤_};
+ghost use Prim.Native.Nat.{_*_, _+_, _<_, _≤_};
 ghost use Rattle.cases.specs.Figures.{clearsAt, countsAt, deskAt, entryIn, intervalOf, longestHead, movementOf, placesAt, sectionIn, sectionLength, vehicleAt, wideAt};
 ghost use lib.ListN.{length};
 ghost use mathlib.Core.Path.{_≡_};
@@ -16,8 +16,10 @@ use working::Movement;
 use working::Section;
 use working::Vehicle;
 
-// Where the figures behind the places begin: vehicles present, in force, refused, and the two desks.
-const PRESENT: usize = 240;
+// The bytes of a place, and where the figures behind the places begin: vehicles present, in force, refused, and the two desks.
+const PLACE: usize = 10;
+
+pub(crate) const PRESENT: usize = PLACE * Section::PLACES;
 
 const FORCE: usize = 241;
 
@@ -77,7 +79,7 @@ fn vehicles_in(figures: &Head) -> [Vehicle; Section::PLACES]
     let mut places = [Vehicle::unused(); Section::PLACES];
     let mut i = 0;
     while i < Section::PLACES {
-        places[i] = vehicle_in(figures, i * 10);
+        places[i] = vehicle_in(figures, i * PLACE);
         i += 1;
     }
     places
@@ -202,7 +204,7 @@ fn is_unused(asked: u8, v: Vehicle) -> bool {
 }
 
 // A vehicle's place; the unused one has kind 0.
-fn vehicle_figures(v: Vehicle) -> [u8; 10] {
+fn vehicle_figures(v: Vehicle) -> [u8; PLACE] {
     let movement = v.movement;
     let left_on = movement_figures(movement);
     let unused = (left_on[0] == 2) & is_unused(left_on[1], v);
@@ -277,7 +279,7 @@ fn put_vehicles(figures: &mut [u8], places: [Vehicle; Section::PLACES])
 {
     let mut i = 0;
     while i < Section::PLACES {
-        put_bytes(figures, i * 10, &vehicle_figures(places[i]));
+        put_bytes(figures, i * PLACE, &vehicle_figures(places[i]));
         i += 1;
     }
 }
@@ -308,6 +310,28 @@ pub(crate) fn figures_of(s: Section) -> [u8; SECTION_LENGTH] {
     put_bytes(&mut figures, DESK_A, &desk_figures(a));
     put_bytes(&mut figures, DESK_B, &desk_figures(b));
     figures
+}
+
+// How many bytes the places in use take where `used` do before the byte at `at`.
+fn used_with(byte: u8, at: usize, used: usize) -> usize
+    requires { ⌜ at < 240 ⌝ }
+{
+    if byte == 0 {
+        used
+    } else {
+        at / PLACE * PLACE + PLACE
+    }
+}
+
+// How many bytes the places take up to the last that is not all zero.
+pub(crate) fn places_used(figures: &[u8; SECTION_LENGTH]) -> usize {
+    let mut used = 0;
+    let mut i = 0;
+    while i < PRESENT {
+        used = used_with(figures[i], i, used);
+        i += 1;
+    }
+    used
 }
 
 // The digest of a section's figures.

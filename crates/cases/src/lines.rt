@@ -1,9 +1,14 @@
 // The lines that say what came of a case.
+ghost use Prim.Native.Nat.{_≤_};
+ghost use lib.ListN.{length};
+use crate::figures::PRESENT;
 use crate::figures::digest;
 use crate::figures::figures_of;
+use crate::figures::places_used;
+use crate::text::front;
 use crate::text::write;
+use crate::text::write_bytes;
 use crate::text::write_figure;
-use crate::text::write_hex;
 use crate::text::write_number;
 use crate::text::write_numbers;
 use working::Answer;
@@ -104,9 +109,22 @@ pub(crate) fn write_stepped(word: &[u8], after: Stepped) {
     write(b"\n");
 }
 
-// A word and a section's figures.
+// The figures behind the places, and then the bytes that the places in use take.
+fn write_figures(figures: &[u8], used: usize)
+    requires { ⌜ 240 ≤ length (now figures) ⌝ }
+{
+    write_bytes(&figures[PRESENT..]);
+    write_bytes(front(figures, used));
+}
+
+// A word and a section's figures, without the unused places behind the last in use.
 pub(crate) fn write_section(word: &[u8], s: Section) {
-    write_hex(word, &figures_of(s));
+    let figures = figures_of(s);
+    let used = places_used(&figures);
+    write(word);
+    write(b" ");
+    write_figures(&figures, used);
+    write(b"\n");
 }
 
 // A word and what the writer answered.

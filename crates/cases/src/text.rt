@@ -1,4 +1,6 @@
 // Text written to standard output, piece by piece.
+ghost use lib.ListN.{take};
+ghost use mathlib.Core.Path.{_≡_};
 use crate::input::wide;
 use libc::STDOUT_FILENO;
 
@@ -28,14 +30,30 @@ pub(crate) fn write_figure(word: &[u8], n: u64) {
     write_number(n);
 }
 
-// A word, a blank, bytes in hex, two digits each, and the end of the line.
-pub(crate) fn write_hex(word: &[u8], bytes: &[u8]) {
-    write(word);
-    write(b" ");
+// The first so many bytes, or all where there are fewer.
+pub(crate) fn front(bytes: &[u8], count: usize) -> &[u8]
+    ensures { λ r. ⌜ now r ≡ take count (now (bytes .entry)) ⌝ }
+{
+    if bytes.len() < count {
+        bytes
+    } else {
+        &bytes[..count]
+    }
+}
+
+// Bytes in hex, two digits each.
+pub(crate) fn write_bytes(bytes: &[u8]) {
     let mut i = 0;
     while i < bytes.len() {
         io::print_hex(STDOUT_FILENO, wide(bytes[i]), 2);
         i += 1;
     }
+}
+
+// A word, a blank, bytes in hex, and the end of the line.
+pub(crate) fn write_hex(word: &[u8], bytes: &[u8]) {
+    write(word);
+    write(b" ");
+    write_bytes(bytes);
     write(b"\n");
 }

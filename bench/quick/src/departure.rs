@@ -4,7 +4,7 @@ use crate::desk::{
     ASKED, ENGINE, FORMS_ALL, FORM_ONE, GUEST, HOLDS, HOLDS_ONE, IDLE, OUT, OWES, OWES_ONE, SENT,
     SENT_ALL, SENT_NONE, SENT_ONE, WAITING, WAITING_ONE,
 };
-use crate::reading::{self, low_bit, Ranges, BOTH, GRANTED, OPEN};
+use crate::reading::{self, low_bit, Ranges, BOTH, GRANTED, LAST, OPEN};
 use crate::vehicle::Effect;
 
 /// A field of an entry, shifted down.
@@ -95,9 +95,12 @@ impl Departure {
         }
     }
 
-    /// RETURN and TRAIN.
+    /// RETURN, TRAIN and LAST TRAIN.
     const fn train(map: usize) -> Departure {
         let returns = map & !BOTH == reading::RETURN;
+        // All that is held goes with a LAST TRAIN, and all that is owed when it is in.
+        let last = map & LAST != 0;
+        let one = !returns && !last;
         let asks = map & reading::ASKED != 0;
         let grants = map & GRANTED != 0;
         let first = if returns { 5 } else { 6 };
@@ -108,8 +111,8 @@ impl Departure {
             ranges: Ranges::of(map),
             bars: clears | USED_UP,
             needs: if returns { GUEST } else { HOLDS },
-            keep: !(only(returns, GUEST | ASKED) | only(grants, OWES | ASKED)),
-            add: SENT_ONE + FORM_ONE - only(!returns, HOLDS_ONE),
+            keep: !(only(returns, GUEST | ASKED) | only(grants, OWES | ASKED) | only(last, HOLDS)),
+            add: SENT_ONE + FORM_ONE - only(one, HOLDS_ONE),
             asked: if asks {
                 Field::at(first)
             } else {
@@ -130,8 +133,9 @@ impl Departure {
                     | SENT
                     | only(grants, WAITING)
                     | only(asks, ASKED)
-                    | only(returns, OUT)) as i32,
-                add: (SENT_NONE - only(!returns, OWES_ONE)) as i32,
+                    | only(returns, OUT)
+                    | only(last, OWES)) as i32,
+                add: (SENT_NONE - only(one, OWES_ONE)) as i32,
             },
         }
     }

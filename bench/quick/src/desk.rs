@@ -15,7 +15,8 @@ pub const SENT: u64 = 0x1F_0000;
 /// Not in force.
 pub const IDLE: u64 = 0x20_0000;
 /// No figure, and 0 at every desk: the other station's receipt of an OPEN or THROUGH
-/// keeps it, that of a RETURN or TRAIN does not, and so they are told apart.
+/// keeps it, that of a RETURN, TRAIN or LAST TRAIN does not, and so they are told
+/// apart.
 pub const ENGINE: u64 = 0x40_0000;
 pub const WAITING: u64 = 0xF00_0000;
 

@@ -48,7 +48,7 @@ pub fn why(section: &Section, entry: u64) -> Refusal {
 fn unread(entry: u64) -> Option<usize> {
     let map = byte(entry, 0);
     let kind = byte(entry, 1);
-    if map & 1 == 0 || !(1..=8).contains(&kind) {
+    if map & 1 == 0 || !(1..=9).contains(&kind) {
         Some(2)
     } else if !fits(map, kind) {
         Some(3)
@@ -64,7 +64,7 @@ fn fits(map: usize, kind: usize) -> bool {
         2 => map == OPEN,
         3 => map == THROUGH,
         4 => map & !BOTH == RETURN,
-        5 => map & !BOTH == TRAIN,
+        5 | 9 => map & !BOTH == TRAIN,
         6 => map == RECEIVE,
         7 => map == MEET,
         _ => map == PLAIN,
@@ -92,9 +92,10 @@ fn at_station(section: &Section, entry: u64, kind: usize) -> usize {
 fn departing(figures: u64, entry: u64, kind: usize) -> usize {
     let stands = |bits| figures & bits != 0;
     let engine = kind < 4;
+    let train = is_train(kind);
     if engine && stands(OUT) {
         10
-    } else if kind != 5 && stands(HOLDS) {
+    } else if !train && stands(HOLDS) {
         11
     } else if engine && stands(OWES) {
         12
@@ -102,7 +103,7 @@ fn departing(figures: u64, entry: u64, kind: usize) -> usize {
         13
     } else if kind == 4 && !stands(GUEST) {
         14
-    } else if kind == 5 && !stands(HOLDS) {
+    } else if train && !stands(HOLDS) {
         15
     } else if !engine && grants_too_much(figures, entry, kind) {
         16
@@ -114,8 +115,13 @@ fn departing(figures: u64, entry: u64, kind: usize) -> usize {
     }
 }
 
+/// TRAIN and LAST TRAIN.
+fn is_train(kind: usize) -> bool {
+    matches!(kind, 5 | 9)
+}
+
 fn grants_too_much(figures: u64, entry: u64, kind: usize) -> bool {
     let granted = Departure::of(byte(entry, 0)).granted.of(entry);
-    let owes = kind == 5 && figures & OWES != 0;
+    let owes = is_train(kind) && figures & OWES != 0;
     granted > figures & ASKED || granted > 0 && owes
 }

@@ -140,6 +140,57 @@ fn logs_in_which_line_clears_wait() {
     assert!(waiting > 400, "{waiting}");
 }
 
+/// Whether line clears are given up in some state of the log.
+fn clears_given_up_in(log: &[u8]) -> bool {
+    let mut run = Run::new(log);
+    while run.next().is_some() {
+        if run
+            .section()
+            .vehicles()
+            .iter()
+            .any(|train| train.given_up > 0)
+        {
+            return true;
+        }
+    }
+    false
+}
+
+/// Trains are endorsed as the last while more line clears are held.
+#[test]
+fn logs_in_which_line_clears_are_given_up() {
+    let mut random = Random::new(5);
+    let mut given_up = 0;
+    for seed in 2_000..2_300 {
+        for options in sorts().into_iter().filter(|options| !options.full) {
+            let log = log(seed, 300, options);
+            if clears_given_up_in(&log) {
+                given_up += 1;
+                same_though_damaged(log, &mut random);
+            }
+        }
+    }
+    assert!(given_up > 400, "{given_up}");
+}
+
+/// The trains of a log as they are, and endorsed as the last and the other way
+/// round at random, so that they leave with any number held and find any owed.
+#[test]
+fn logs_with_trains_endorsed_otherwise() {
+    let mut random = Random::new(6);
+    for seed in 3_000..3_300 {
+        let mut log = log(seed, 300, Options::default());
+        let mut start = 0;
+        while start + 1 < log.len() {
+            if matches!(log[start] & !0x60, 0x0F) && random.chance(20) {
+                log[start + 1] = random.pick(&[5, 9, 9, 10]);
+            }
+            start += second::entry_length(log[start]);
+        }
+        same(&log);
+    }
+}
+
 #[test]
 fn noise() {
     let mut random = Random::new(2);
@@ -153,10 +204,11 @@ fn noise() {
 /// the ranges to just above, in force and not.
 #[test]
 fn entries_at_their_ranges() {
-    const MAPS: [u8; 13] = [
-        0x01, 0x3F, 0x1F, 0x07, 0x27, 0x47, 0x67, 0x0F, 0x2F, 0x4F, 0x6F, 0x87, 0x83,
+    const MAPS: [u8; 17] = [
+        0x01, 0x3F, 0x1F, 0x07, 0x27, 0x47, 0x67, 0x0F, 0x2F, 0x4F, 0x6F, 0x0F, 0x2F, 0x4F, 0x6F,
+        0x87, 0x83,
     ];
-    const KINDS: [u8; 13] = [1, 2, 3, 4, 4, 4, 4, 5, 5, 5, 5, 6, 7];
+    const KINDS: [u8; 17] = [1, 2, 3, 4, 4, 4, 4, 5, 5, 5, 5, 9, 9, 9, 9, 6, 7];
     let mut random = Random::new(3);
     for _ in 0..3_000 {
         let mut log = if random.chance(80) {
@@ -165,18 +217,42 @@ fn entries_at_their_ranges() {
             Vec::new()
         };
         for _ in 0..random.below(30) {
-            let which = random.below(13) as usize;
+            let which = random.below(17) as usize;
             let map = MAPS[which];
             let kind = if random.chance(90) {
                 KINDS[which]
             } else {
-                random.small(0, 9)
+                random.small(0, 11)
             };
             let most = random.pick(&[1, 2, 3, 9]);
             log.extend([map, kind]);
             log.extend((2..second::entry_length(map)).map(|_| random.small(0, most)));
         }
         same(&log);
+    }
+}
+
+/// Every kind with every map, all its fields 1, while trains may leave and while
+/// nothing is in force.
+#[test]
+fn every_kind_with_every_map() {
+    let opened: [&[u8]; 5] = [
+        &[1, 1],
+        &[0x3F, 2, 1, 0, 0, 1, 1, 8],
+        &[0x87, 6, 2, 0, 0, 1, 0, 1],
+        &[0x67, 4, 2, 0, 0, 8, 8],
+        &[0x87, 6, 1, 0, 0, 2, 0, 1],
+    ];
+    for map in 0..=u8::MAX {
+        for kind in 0..=u8::MAX {
+            let mut entry = vec![1; second::entry_length(map)];
+            entry[0] = map;
+            if let Some(second) = entry.get_mut(1) {
+                *second = kind;
+            }
+            same(&[&opened.concat(), &entry[..]].concat());
+            same(&entry);
+        }
     }
 }
 

@@ -174,12 +174,12 @@ may-leave {e = e} p tests are is =
     (p .looked .desk-is, passes .unused, passes .room)
 
 -- a vehicle is put in, and then the figures
-pub leaves : {w u w₁ : List ℕ} {x : Station} {time : ℕ} {d : Desk} {movement : Movement} {class : ℕ} {v : Vehicle} → v ≡ vehicleFor x (nextForm d) movement class
-    → VehiclesBecome w u (insertAt x v) (λ start. startOn x start 31) → DeskBecomes u w₁ x (withDeparture time (nextForm d) (d .sent + 1)) → Leaves w x time d movement class w₁
+pub leaves : {w u w₁ : List ℕ} {x : Station} {time form sent : ℕ} {movement : Movement} {class : ℕ} {v : Vehicle} → v ≡ vehicleFor x form movement class
+    → VehiclesBecome w u (insertAt x v) (λ start. startOn x start 31) → DeskBecomes u w₁ x (withDeparture time form sent) → Leaves w x time form sent movement class w₁
 leaves {u = u} is present desk = record { between = u; vehicle = rw (← is) present; figures = desk }
 
 -- it has left, and then the kind changes figures of its own
-module _ {w w₁ : List ℕ} {e : Entry} (l : Looked w e) {movement : Movement} {class : ℕ} (left : Leaves w (l .at) (e .time) (l .desk) movement class w₁) where
+module _ {w w₁ : List ℕ} {e : Entry} (l : Looked w e) {movement : Movement} {class : ℕ} (left : Leaves w (l .at) (e .time) (nextForm (l .desk)) (l .desk .sent + 1) movement class w₁) where
   abbrev inserted : List Vehicle → List Vehicle
   inserted = insertAt (l .at) (vehicleFor (l .at) (nextForm (l .desk)) movement class)
 

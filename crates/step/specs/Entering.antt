@@ -1,7 +1,7 @@
 -- What a function on a section in lent words answers and leaves, by the step that it takes; and where the ring then starts.
 use Prim.Native.Nat.{_+_, ℕ}
 use Rattle.words.specs.Words.{Becomes, DeskBecomes, VehiclesBecome, sectionIn, startIn, startOn, withDeparture}
-use Rattle.working.specs.Effects.{Arrive, Depart, Plan, Refuse, nextForm, vehicleFor}
+use Rattle.working.specs.Effects.{Arrive, Depart, Plan, Refuse, vehicleFor}
 use Rattle.working.specs.Events.{At, Bad, Begin, Decoded, Event, Meet, Resume, Says}
 use Rattle.working.specs.Reasons.{beginTests, resumeTests}
 use Rattle.working.specs.Refusals.{firstOf}
@@ -62,8 +62,8 @@ pub record Answers (before : List ℕ) (decoded : Decoded) (given : Answer) (aft
   pub answer : given ≡ onDecoded (sectionIn before) decoded .answer
   pub words : Becomes before after (onDecoded (sectionIn before) decoded .section) (startAnswered (sectionIn before) decoded (startIn before))
 
--- what every departure does to the words: a vehicle is put in, and then the figures that all kinds change on x's desk, which was d
-pub record Leaves (before : List ℕ) (x : Station) (time : ℕ) (d : Desk) (movement : Movement) (class : ℕ) (after : List ℕ) : Type 0 where
+-- what every departure does to the words: a vehicle is put in under its form number, and then the figures that all kinds change on x's desk, which counts `sent` after it
+pub record Leaves (before : List ℕ) (x : Station) (time form sent : ℕ) (movement : Movement) (class : ℕ) (after : List ℕ) : Type 0 where
   pub between : List ℕ
-  pub vehicle : VehiclesBecome before between (insertAt x (vehicleFor x (nextForm d) movement class)) (λ start. startOn x start 31)
-  pub figures : DeskBecomes between after x (withDeparture time (nextForm d) (d .sent + 1))
+  pub vehicle : VehiclesBecome before between (insertAt x (vehicleFor x form movement class)) (λ start. startOn x start 31)
+  pub figures : DeskBecomes between after x (withDeparture time form sent)

@@ -42,16 +42,22 @@ use working::Vehicle;
 use working::Verdict;
 use working::Whose;
 
-// A vehicle leaves station `at`, whose desk is `d`, on its next form number, which is given: what every departure puts.
-fn depart(words: &mut Words, at: Station, time: u16, d: Desk, movement: Movement, class: u8) -> u16
-    requires { ⌜ (d ≡ deskOf (sectionIn (now words)) at) × (d .last < 9999) × (d .sent < 12) ⌝ }
-    ensures { λ r. ⌜ (r ≡ d .last + 1) × Leaves (now (words .entry)) at time d movement class (now (words .exit)) ⌝ }
+// A vehicle leaves station `at` under a form number, as the departure counted `sent`: what every departure puts. The numbers are handed over, which keeps this short
+// enough for the compiler to join it to each kind.
+fn depart(
+    words: &mut Words,
+    at: Station,
+    time: u16,
+    form: u16,
+    sent: u8,
+    movement: Movement,
+    class: u8,
+)
+    ensures { λ _. ⌜ Leaves (now (words .entry)) at time form sent movement class (now (words .exit)) ⌝ }
 {
-    let form = d.last + 1;
     let v = vehicle_for(at, form, movement, class);
     insert(words, at, v);
-    put_departure(words, at, time, form, d.sent + 1);
-    form
+    put_departure(words, at, time, form, sent);
 }
 
 pub(crate) fn enter_open(words: &mut Words, e: Entry) -> Answer
@@ -69,8 +75,10 @@ pub(crate) fn enter_open(words: &mut Words, e: Entry) -> Answer
     if let Verdict::Refused(why) = own {
         return refuse(words, Whose::Of(at), why);
     }
+    let form = d.last + 1;
+    let sent = d.sent + 1;
     let movement = Movement::Open { asked: e.asked };
-    let form = depart(words, at, e.time, d, movement, e.class);
+    depart(words, at, e.time, form, sent, movement, e.class);
     put_out(words, at, true);
     Answer::Accepted {
         form,
@@ -94,11 +102,14 @@ pub(crate) fn enter_through(words: &mut Words, e: Entry) -> Answer
     if let Verdict::Refused(why) = own {
         return refuse(words, Whose::Of(at), why);
     }
-    let form = depart(
+    let form = d.last + 1;
+    let sent = d.sent + 1;
+    depart(
         words,
         at,
         e.time,
-        d,
+        form,
+        sent,
         Movement::Through,
         Vehicle::LIGHT_ENGINE,
     );
@@ -126,12 +137,15 @@ pub(crate) fn enter_return(words: &mut Words, e: Entry) -> Answer
     if let Verdict::Refused(why) = own {
         return refuse(words, Whose::Of(at), why);
     }
+    let form = d.last + 1;
+    let sent = d.sent + 1;
     let clears = d.clears;
-    let form = depart(
+    depart(
         words,
         at,
         e.time,
-        d,
+        form,
+        sent,
         Movement::Return { asked, granted },
         d.guest,
     );
@@ -161,10 +175,12 @@ pub(crate) fn enter_train(words: &mut Words, e: Entry, endorsed: bool) -> Answer
     if let Verdict::Refused(why) = own {
         return refuse(words, Whose::Of(at), why);
     }
+    let form = d.last + 1;
+    let sent = d.sent + 1;
     let clears = d.clears;
     let booked = d.sent == 0;
     let movement = train_movement(endorsed, clears.holds, asked, granted);
-    let form = depart(words, at, e.time, d, movement, 0);
+    depart(words, at, e.time, form, sent, movement, 0);
     put_clears(words, at, train_clears(endorsed, clears, granted));
     Answer::Accepted {
         form,

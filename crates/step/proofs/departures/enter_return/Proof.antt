@@ -9,6 +9,7 @@ use Rattle.working.specs.Acts.{Return}
 use Rattle.working.specs.Reasons.{returnTests}
 use borrow.Author.Needs.{needs}
 use mathlib.Core.Path.{refl}
+use native.Mathlib.Omega.{arith}
 
 -- what is looked at: the desk, and what 7 and 9 come to
 abbrev desk-of : tie.After-station-verdict → tie.After-desk
@@ -36,13 +37,13 @@ departs c =
     let clears = put .before in
     let guest = clears .before .before in
     let left = guest .before .before in
-    let told = left .before .before .before in
+    let told = left .before .before .before .before .before in
     let p = passed (told .before .before) in
     act-done p (told .enum-told2 .given .1)
     (record {
-      answer = rw (c .clear-forms .ensures, left .depart .ensures .0);
+      answer = rw (c .clear-forms .ensures);
       words = rw (← clears .return-clears .ensures)
-          (left-with (p .looked) (left .depart .ensures .1) (λ d. withClears (clears .return-clears .result) (withGuest 0 d))
+          (left-with (p .looked) (left .depart .ensures) (λ d. withClears (clears .return-clears .result) (withGuest 0 d))
           (desk-then (p .looked .at) (withGuest 0) (withClears (clears .return-clears .result)) (guest .put-guest .ensures) (put .put-clears .ensures)));
     })
 
@@ -55,6 +56,8 @@ enter-return-spec =
     (λ c. search needs) (λ c κs. search needs) (λ c κs. search needs) (λ c. search needs) (λ c κs. search needs)
     (λ c. let told = c .before .before .before in own-refused (passed (told .before .before)) (told .own .given .1) (c .refuse2 .ensures))
     (λ c. search needs)
-    (λ c κs. let told = c .before .before in let p = passed (told .before .before) in may-leave p (returnTests (p .looked .desk) _) refl (told .enum-told2 .given .1))
+    (λ c. let told = c .before in let p = passed (told .before .before) in omega (arith, may-leave p (returnTests (p .looked .desk) _) refl (told .enum-told2 .given .1) .1))
+    (λ c. let told = c .before .before in let p = passed (told .before .before) in omega (arith, may-leave p (returnTests (p .looked .desk) _) refl (told .enum-told2 .given .1) .2))
+    (λ c κs. search needs)
     (λ c κs. search needs) (λ c κs. search needs) (λ c κs. search needs) (λ c κs. search needs)
     departs)

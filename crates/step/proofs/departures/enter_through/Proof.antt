@@ -8,6 +8,7 @@ use Rattle.working.specs.Events.{viewOf}
 use Rattle.working.specs.Reasons.{openTests}
 use borrow.Author.Needs.{needs}
 use mathlib.Core.Path.{refl}
+use native.Mathlib.Omega.{arith}
 
 -- what is looked at: the desk, and what 7 and 9 come to
 abbrev desk-of : tie.After-station-verdict → tie.After-desk
@@ -32,12 +33,12 @@ passed c =
 departs : tie.Need-returns-3
 departs c =
     let left = c .before .before in
-    let told = left .before .before in
+    let told = left .before .before .before .before in
     let p = passed (told .before .before) in
     act-done p (told .enum-told2 .given .1)
     (record {
-      answer = rw (c .open-speed .ensures, c .before .view-of .ensures, left .depart .ensures .0);
-      words = has-left (p .looked) (left .depart .ensures .1);
+      answer = rw (c .open-speed .ensures, c .before .view-of .ensures);
+      words = has-left (p .looked) (left .depart .ensures);
     })
 
 pub enter-through-spec : {M : Type 1} → statement M
@@ -49,6 +50,8 @@ enter-through-spec =
     (λ c. search needs) (λ c κs. search needs) (λ c κs. search needs) (λ c. search needs) (λ c κs. search needs)
     (λ c. let told = c .before .before .before in own-refused (passed (told .before .before)) (told .own .given .1) (c .refuse2 .ensures))
     (λ c. search needs)
-    (λ c κs. let told = c .before in let p = passed (told .before .before) in may-leave p (openTests (p .looked .desk)) refl (told .enum-told2 .given .1))
+    (λ c. let told = c .before in let p = passed (told .before .before) in omega (arith, may-leave p (openTests (p .looked .desk)) refl (told .enum-told2 .given .1) .1))
+    (λ c. let told = c .before .before in let p = passed (told .before .before) in omega (arith, may-leave p (openTests (p .looked .desk)) refl (told .enum-told2 .given .1) .2))
+    (λ c κs. search needs)
     (λ c κs. search needs) (λ c κs. search needs)
     departs)

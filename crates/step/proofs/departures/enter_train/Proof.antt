@@ -9,6 +9,7 @@ use Rattle.working.specs.Events.{viewOf}
 use Rattle.working.specs.Reasons.{trainTests}
 use borrow.Author.Needs.{needs}
 use mathlib.Core.Path.{refl}
+use native.Mathlib.Omega.{arith}
 
 -- what is looked at: the desk, and what 7 and 9 come to
 abbrev desk-of : tie.After-station-verdict → tie.After-desk
@@ -37,12 +38,12 @@ departs c =
     let clears = put .before in
     let left = clears .before .before in
     let movement = left .before .before in
-    let told = movement .before .before .before in
+    let told = movement .before .before .before .before .before in
     let p = passed (told .before .before) in
     act-done p (told .enum-told2 .given .1)
     (record {
-      answer = rw (c .train-speed .ensures, c .before .view-of .ensures, forms .clear-forms .ensures, left .depart .ensures .0);
-      words = rw (← clears .train-clears .ensures) (left-with (p .looked) (rw (movement .train-movement .ensures) at (left .depart .ensures .1)) (withClears (clears .train-clears .result)) (put .put-clears .ensures));
+      answer = rw (c .train-speed .ensures, c .before .view-of .ensures, forms .clear-forms .ensures);
+      words = rw (← clears .train-clears .ensures) (left-with (p .looked) (rw (movement .train-movement .ensures) at (left .depart .ensures)) (withClears (clears .train-clears .result)) (put .put-clears .ensures));
     })
 
 pub enter-train-spec : {M : Type 1} → statement M
@@ -54,7 +55,8 @@ enter-train-spec =
     (λ c. search needs) (λ c κs. search needs) (λ c κs. search needs) (λ c. search needs) (λ c κs. search needs)
     (λ c. let told = c .before .before .before in own-refused (passed (told .before .before)) (told .own .given .1) (c .refuse2 .ensures))
     (λ c. search needs)
-    (λ c κs. search needs)
-    (λ c κs. let told = c .before .before .before .before in let p = passed (told .before .before) in may-leave p (trainTests (p .looked .desk) _) refl (told .enum-told2 .given .1))
+    (λ c. let told = c .before in let p = passed (told .before .before) in omega (arith, may-leave p (trainTests (p .looked .desk) _) refl (told .enum-told2 .given .1) .1))
+    (λ c. let told = c .before .before in let p = passed (told .before .before) in omega (arith, may-leave p (trainTests (p .looked .desk) _) refl (told .enum-told2 .given .1) .2))
+    (λ c κs. search needs) (λ c κs. search needs)
     (λ c κs. search needs) (λ c κs. search needs) (λ c κs. search needs) (λ c κs. search needs) (λ c κs. search needs)
     departs)

@@ -1,5 +1,4 @@
 pub mod Advancing
-pub mod Becoming
 pub mod Containing
 pub mod Ending
 pub mod Examples

@@ -1,14 +1,8 @@
 // The step on a section and lent bytes, in both forms; the running of a log, and its listing, in blocks or whole.
 // specs/Listings.antt says what the listing of a log is, and specs/Blocks.antt that the blocks one after another are that listing (proofs/Whole.antt).
-mod answers;
 mod blocks;
-mod declaring;
-mod departures;
-mod entering;
-mod fields;
 mod lines;
 mod memory;
-mod receipts;
 mod running;
 mod stepping;
 

@@ -2,16 +2,17 @@
 -- gives each the same answer and the same section, and nothing waits at the end: `answered-as-before`.
 -- The two steps differ in refusal 16 on a TRAIN, in what a receipt makes of holds, and in kind 9. In such a list a station that holds a line clear owes none, so that a
 -- TRAIN which document 01 lets go is let go; whoever receives a grant owes nothing after it, so that it is held at once (`ReplyLast`); and there is no entry of kind 9,
--- since document 01 refuses each with 2 (`no-ninth`).
+-- since document 01 refuses each with 2 (`KindNine`).
 -- Assumes nothing.
 use Prim.Native.Nat.{_<_, ℕ}
 use Rattle.working.proofs.Changes.{Change, arrival, change, departure, emptying, meeting, named-there, refusal, step-is, well-at}
 use Rattle.working.proofs.Clauses.{Shape}
 use Rattle.working.proofs.Invariant.{Halves, far-holds}
 use Rattle.working.proofs.Kept.{Between, Good, good-emptied, good-step, kept-at}
+use Rattle.working.proofs.KindNine.{no-kind-nine, none-last}
 use Rattle.working.proofs.Lists.{each-result, step-did}
 use Rattle.working.proofs.Made.{Well, other-sender, vehicles-with}
-use Rattle.working.proofs.ReplyLast.{Allowed01, ReplyLast, last-far, near-rest, paid}
+use Rattle.working.proofs.ReplyLast.{Allowed01, ReplyLast, replies-far, near-rest, paid}
 use Rattle.working.proofs.Reasons.{depart-passes, receive-passes}
 use Rattle.working.proofs.Receipts.{Receipt, nothing-replied, of-other, of-own, receipt}
 use Rattle.working.proofs.Sides.{moves-far, moves-met, moves-none, moves-own, moves-past, moves-skip, movesOf}
@@ -19,7 +20,7 @@ use Rattle.working.proofs.Tests.{NoneHolds, both, no-test, none-holds, 
 use Rattle.working.proofs.Vehicles.{From, NotFrom, every-end, nearest, not-other, number-same, ordered-far}
 use Rattle.working.specs.Acts as acts
 use Rattle.working.specs.Acts.{Act}
-use Rattle.working.specs.Document01.{AnsweredAsBefore, arriveDesk01, decode01, entered01, holdsAfter01, isNinth, onDecoded01, planOf01, stepOf01, testsOf01, trainTests01}
+use Rattle.working.specs.Document01.{AnsweredAsBefore, arriveDesk01, decode01, entered01, holdsAfter01, isKindNine, onDecoded01, planOf01, stepOf01, testsOf01, trainTests01}
 use Rattle.working.specs.Effects.{Plan, arriveDesk, effectOf, grantedIn, otherDesk, ownDesk, replied}
 use Rattle.working.specs.Events.{At, Bad, Begin, Decoded, Meet, Resume, Says, decode}
 use Rattle.working.specs.Reasons.{departTests, mayEnter, testsOf, trainTests}
@@ -129,7 +130,7 @@ module _ (x : Station) (d o : Desk) (time : ℕ) (v : Vehicle) (l : List Vehicle
       let halves : Halves d o [] (movesOf (otherAt x) l ++ v .movement ∷ []) = rw (moves-skip x v l is, none-own, theirs) at h in
       let own : ReplyLast d [] = rw (moves-skip x v l is, none-own) at (k .own) in
       let far : ReplyLast o (movesOf (otherAt x) l ++ v .movement ∷ []) = rw theirs at (k .far) in
-      let after = last-far d o time (v .class) (v .movement) (movesOf (otherAt x) l) halves own far in
+      let after = replies-far d o time (v .class) (v .movement) (movesOf (otherAt x) l) halves own far in
       record {
         same = other-same d time (v .class) (v .movement) (far-holds d o (v .movement) (movesOf (otherAt x) l) halves) (own .waiting)
             (paid d o time (v .class) (v .movement) (movesOf (otherAt x) l) halves own far)
@@ -232,17 +233,7 @@ last-change s e r g k allows (meeting x y n i f w) =
     let present = vehicles-with 24 (metAt x i (vehiclesOf s)) (w .fits) in
     record { own = rw (present, moves-met A x i (vehiclesOf s)) (k .own); far = rw (present, moves-met B x i (vehiclesOf s)) (k .far) }
 
--- bytes that document 01's step accepts are no entry of kind 9
-pub no-ninth : (s : Section) (bytes : List ℕ) → isAccepted (stepOf01 s bytes .answer) ≡ true → isNinth bytes ≡ false
-unfolding decode01 stepOf01
-no-ninth s bytes = by (wellMade s) (isNinth bytes)
-  where
-    by : (made ninth : Bool) → isAccepted (ifMade made s (onDecoded01 s (cond ninth (Bad UnknownKind) (decode bytes))) .answer) ≡ true → ninth ≡ false
-    by true true accepted = absurd (false≢true accepted)
-    by false true accepted = absurd (false≢true accepted)
-    by made false accepted = refl
-
-step-01-is : (s : Section) (bytes : List ℕ) → wellMade s ≡ true → isNinth bytes ≡ false → stepOf01 s bytes ≡ onDecoded01 s (decode bytes)
+step-01-is : (s : Section) (bytes : List ℕ) → wellMade s ≡ true → isKindNine bytes ≡ false → stepOf01 s bytes ≡ onDecoded01 s (decode bytes)
 unfolding decode01 stepOf01
 step-01-is s bytes made other = rw (made, other)
 
@@ -250,7 +241,7 @@ step-as : (s : Section) (bytes : List ℕ) → Good s → RepliesLastIn s → is
     → (stepOf s bytes ≡ stepOf01 s bytes) × RepliesLastIn (stepOf s bytes .section)
 step-as s bytes g k accepted =
     let made = g .sound .well in
-    let is = step-01-is s bytes made (no-ninth s bytes accepted) in
+    let is = step-01-is s bytes made (no-kind-nine s bytes accepted) in
     let (same, allows) = decoded-as s (decode bytes) g k (rw is at accepted) in
     (step-is s bytes made ∙ same ∙ sym is, last-change s (decode bytes) (stepOf s bytes) g k allows (change s bytes (g .sound)))
 
@@ -280,7 +271,7 @@ list-as {s} g k (next {t = t} {d = d} {l = l} h r) accepted =
 pub answered-as-before : AnsweredAsBefore
 answered-as-before l s run accepted =
     let k = list-as (good-emptied false noneRefused) last-emptied run accepted in
-    record { each = each-result run ∙ k .each; end = k .end; waiting = waiting (k .replies) }
+    record { each = each-result run ∙ k .each; end = k .end; waiting = waiting (k .replies); unendorsed = none-last run accepted }
   where
     waiting : RepliesLastIn s → (x : Station) → deskOf s x .waiting ≡ 0
     waiting k A = k .own .waiting

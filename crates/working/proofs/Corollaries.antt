@@ -1,13 +1,13 @@
 -- Of every list of steps from a fresh section: no step is refused with 5, since every section on the way is well made and no other test gives 5;
 -- where a train of the other station is the nearest, the station owes a line clear, so that "not below 0" never acts;
--- where that train is endorsed as the last, it and what it gives up are all that the station owes, so that "becomes 0" forgives nothing else;
+-- where that train is endorsed as the last, it and what it gives up are all that the station owes, so that "becomes 0" takes off nothing else;
 -- and a station that holds line clears and owes some is asked for none, so that a TRAIN's grant while it owes is above what is asked: that half of 16 never decides alone.
 -- Assumes nothing.
 use Prim.Native.Nat.{_+_, _<_, ℕ}
 use Rattle.working.proofs.Changes.{step-is, well-at}
 use Rattle.working.proofs.Demand3.{kept}
 use Rattle.working.proofs.Found.{Found, cut, found, the-end, whole}
-use Rattle.working.proofs.Invariant.{Halves, closed, isLast, spent, spentIn, trainOne, weigh-snoc}
+use Rattle.working.proofs.Invariant.{Halves, all-owed, isLast, owedFor, owedOver, trainOne, weigh-snoc}
 use Rattle.working.proofs.Kept.{kept-at}
 use Rattle.working.proofs.Vehicles.{From, nearest, not-own, ordered-far}
 use Rattle.working.proofs.Lists.{split-run, step-did}
@@ -132,7 +132,7 @@ never-five {s = s} run before d after is = let (t, first, later) = split-run bef
         let did = step-did d t u h in
         rw (did .answered, step-is t (d .bytes) (kept r .good .sound .well)) (fine-decoded t (decode (d .bytes)) (fine-decode (d .bytes)))
 
--- ---- a TRAIN that comes is owed
+-- ---- a train that comes is owed
 
 pub train-owed : {l : List Done} {s : Section} → Run fresh l s → (x : Station) → 0 < length (vehiclesOf s)
     → isFrom (numberAt (otherAt x)) (nearestAt x (vehiclesOf s)) ≡ true → isTrain (kindIn (nearestAt x (vehiclesOf s) .movement)) ≡ true
@@ -143,7 +143,7 @@ train-owed {s = s} run x there from train =
     let far = otherAt x in
     let one : trainOne (v .movement) ≡ 1 = rw (rw (k .near) at train) in
     let theirs = ap (movesOf far) (k .whole) ∙ moves-far x v (k .others) (rw (k .near) at from) in
-    omega (arith, kept-at x s (kept run .good) .own .sum, ap spent theirs, weigh-snoc spentIn (movesOf far (k .others)) (v .movement))
+    omega (arith, kept-at x s (kept run .good) .own .sum, ap owedOver theirs, weigh-snoc owedFor (movesOf far (k .others)) (v .movement))
 
 -- ---- of a TRAIN endorsed as the last that comes, all that is owed is that train and what it gives up
 
@@ -167,7 +167,7 @@ last-train-owed {s = s} run x there from last =
     let both : Halves (deskOf s x) (deskOf s (otherAt x)) [] (movesOf (otherAt x) (k .others) ++ v .movement ∷ []) =
     rw (k .whole, skip, none, moves-far x v (k .others) its) at (kept-at x s good) in
     let is : isLast (v .movement) ≡ true = rw (k .near) at last in
-    rw (k .near) (omega (arith, closed (deskOf s x) (deskOf s (otherAt x)) (v .movement) (movesOf (otherAt x) (k .others)) both is, one-train (v .movement) is))
+    rw (k .near) (omega (arith, all-owed (deskOf s x) (deskOf s (otherAt x)) (v .movement) (movesOf (otherAt x) (k .others)) both is, one-train (v .movement) is))
 
 -- ---- a TRAIN's grant while its station owes
 

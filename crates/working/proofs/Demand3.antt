@@ -10,7 +10,7 @@ use Rattle.working.proofs.Lists.{StepDid, each-result, join-run, split-
 use Rattle.working.proofs.Made.{length-vehicles}
 use Rattle.working.proofs.Opposed.{opposed-openers}
 use Rattle.working.proofs.Swap.{Opposite, ab, ba, swapped}
-use Rattle.working.proofs.Told.{Told, carried, spent-told, told-change}
+use Rattle.working.proofs.Told.{Told, carried, owed-told, told-change}
 use Rattle.working.specs.Acts.{Act}
 use Rattle.working.specs.Demand3.{AcceptedAt, Demand3, ReceivesIt, givenUpBy, onTheWayTo, trainsOf, vehicleAt}
 use Rattle.working.specs.Departures.{departureOf, leftSlowly}
@@ -104,5 +104,5 @@ demand3 {l} {s} run = record {
     owed : (x : Station)
         → deskOf s x .clears .owes
         ≡ deskOf s (otherAt x) .clears .holds + deskOf s (otherAt x) .waiting + trainsOf l s (otherAt x) + givenUpBy s (otherAt x) + onTheWayTo s (otherAt x)
-    owed A = omega (arith, k .good .kept .own .sum, spent-told l B (vehiclesOf s) (k .told), carried grantedIn A (vehiclesOf s))
-    owed B = omega (arith, k .good .kept .far .sum, spent-told l A (vehiclesOf s) (k .told), carried grantedIn B (vehiclesOf s))
+    owed A = omega (arith, k .good .kept .own .sum, owed-told l B (vehiclesOf s) (k .told), carried grantedIn A (vehiclesOf s))
+    owed B = omega (arith, k .good .kept .far .sum, owed-told l A (vehiclesOf s) (k .told), carried grantedIn B (vehiclesOf s))

@@ -10,8 +10,8 @@
 --             last only OPENs and THROUGHs      `row`, by `Ahead`
 --     RETURN  a RETURN is nearest the other station      `row`, by `Ahead`; `clear`
 --     FRONT   ahead of a RETURN or a train there are only such, of the same sender      `row`, by `Ahead`; `clear`
--- A train is a TRAIN, endorsed as the last or not. Where one that is arrives, all that the station owes is that train and what it gives up (`closed`), so that "becomes
--- 0" and the sum agree.
+-- A train is a TRAIN, endorsed as the last or not. Where one that is endorsed arrives, all that the station owes is that train and what it gives up (`all-owed`), so that
+-- "becomes 0" and the sum agree.
 -- Assumes nothing.
 use Prim.Native.Nat.{_+_, _-_, _<_, ℕ}
 use Rattle.working.proofs.Every.{Every, every-before, every-map}
@@ -70,18 +70,18 @@ abbrev pub weigh : (Movement → ℕ) → List Movement → ℕ
 weigh f [] = 0
 weigh f (m ∷ l) = f m + weigh f l
 
--- the line clears that a vehicle uses and gives up: a train's own, and those that it carries
-abbrev pub spentIn : Movement → ℕ
-spentIn m = trainOne m + givenUpIn m
+-- what the other station owes for a vehicle: the train that it is, and what it gives up
+abbrev pub owedFor : Movement → ℕ
+owedFor m = trainOne m + givenUpIn m
 
-abbrev pub spent : List Movement → ℕ
-spent l = weigh spentIn l
+abbrev pub owedOver : List Movement → ℕ
+owedOver l = weigh owedFor l
 
 abbrev pub granted : List Movement → ℕ
 granted l = weigh grantedIn l
 
--- a train that is not endorsed as the last; a train that grants nothing
-pub record Plain (m : Movement) : Type 0 where
+-- a TRAIN that is not endorsed as the last; a train that grants nothing
+pub record Unendorsed (m : Movement) : Type 0 where
   pub train : Trains m
   pub more : isLast m ≡ false
 
@@ -127,7 +127,7 @@ pub record Holding (d o : Desk) (mine theirs : List Movement) : Type 0 where
   pub far-holds : o .clears .holds ≡ 0
   pub waiting : d .waiting ≡ 0
   pub none-far : theirs ≡ []
-  pub trains : Every Plain mine
+  pub trains : Every Unendorsed mine
   pub asked : 0 < d .clears .owes → d .clears .asked ≡ 0
 
 pub record Waits (d : Desk) (mine theirs : List Movement) : Type 0 where
@@ -142,7 +142,7 @@ pub data Clear (mine theirs : List Movement) : Type 0 where
   no-far : theirs ≡ [] → Clear mine theirs
 
 pub record Half (d o : Desk) (mine theirs : List Movement) : Type 0 where
-  pub sum : d .clears .owes ≡ o .clears .holds + o .waiting + spent theirs + granted mine
+  pub sum : d .clears .owes ≡ o .clears .holds + o .waiting + owedOver theirs + granted mine
   pub outs : d .out ≡ (ltb 0 (o .guest) || awayAt mine theirs)
   pub guests : 0 < d .guest → Visited d o mine theirs
   pub holding : 0 < d .clears .holds → Holding d o mine theirs
@@ -191,29 +191,29 @@ pub weigh-snoc : (f : Movement → ℕ) (l : List Movement) (m : Movement) → w
 weigh-snoc f [] m = omega arith
 weigh-snoc f (n ∷ l) m = omega (arith, weigh-snoc f l m)
 
--- an OPEN or a THROUGH grants nothing, is no train, gives nothing up, and is no RETURN
+-- an OPEN or a THROUGH grants nothing, nothing is owed for it, and it is no RETURN
 record Opener (m : Movement) : Type 0 where
   grants : grantedIn m ≡ 0
-  spends : spentIn m ≡ 0
+  owed : owedFor m ≡ 0
   return : isReturn m ≡ false
 
 opener : (m : Movement) → Opens m → Opener m
-opener (Open a) is = record { grants = refl; spends = refl; return = refl }
-opener Through is = record { grants = refl; spends = refl; return = refl }
+opener (Open a) is = record { grants = refl; owed = refl; return = refl }
+opener Through is = record { grants = refl; owed = refl; return = refl }
 opener (Return a g) is = absurd (false≢true is)
 opener (Train a g) is = absurd (false≢true is)
 opener (LastTrain a g u) is = absurd (false≢true is)
 
-openers-spend : (l : List Movement) → Every Opens l → spent l ≡ 0
-openers-spend [] h = refl
-openers-spend (m ∷ l) h = omega (arith, opener m (h .0) .spends, openers-spend l (h .1))
+openers-owed : (l : List Movement) → Every Opens l → owedOver l ≡ 0
+openers-owed [] h = refl
+openers-owed (m ∷ l) h = omega (arith, opener m (h .0) .owed, openers-owed l (h .1))
 
 openers-last : (l : List Movement) → Every Opens l → lastReturn l ≡ false
 openers-last [] h = refl
 openers-last (m ∷ l) h = last-cons m l (opener m (h .0) .return) ∙ openers-last l (h .1)
 
 -- no train and no RETURN
-openers-of : (l : List Movement) → InRow l → spent l ≡ 0 → lastReturn l ≡ false → Every Opens l
+openers-of : (l : List Movement) → InRow l → owedOver l ≡ 0 → lastReturn l ≡ false → Every Opens l
 openers-of [] h t r = tt
 openers-of (Open a ∷ l) h t r = (refl, openers-of l (h .1) (omega arith) (sym (last-cons (Open a) l refl) ∙ r))
 openers-of (Through ∷ l) h t r = (refl, openers-of l (h .1) (omega arith) (sym (last-cons Through l refl) ∙ r))
@@ -256,7 +256,7 @@ hauled (Train a g) is = record { no-open = refl; fast = refl; return = refl }
 hauled (LastTrain a g u) is = record { no-open = refl; fast = refl; return = refl }
 
 -- ahead of a train may stand TRAINs that are not endorsed as the last; where one of them grants, it grants nothing
-trains-ahead : (m : Movement) (l : List Movement) → Trains m → Every Plain l → (0 < granted l → grantedIn m ≡ 0) → Every (Ahead m) l
+trains-ahead : (m : Movement) (l : List Movement) → Trains m → Every Unendorsed l → (0 < granted l → grantedIn m ≡ 0) → Every (Ahead m) l
 trains-ahead m [] is h free = tt
 trains-ahead m (n ∷ l) is h free =
     let k = hauled n (h .0 .train) in (
@@ -284,7 +284,7 @@ alone [] m h e = refl
 alone (n ∷ l) m h e = let (row, (first, others)) = row-snoc (n ∷ l) m h in absurd (e (first .no-open))
 
 -- trains, of which there are none
-trains-none : (l : List Movement) → Every Bare l → spent l ≡ 0 → l ≡ []
+trains-none : (l : List Movement) → Every Bare l → owedOver l ≡ 0 → l ≡ []
 trains-none [] h e = refl
 trains-none (m ∷ l) h e = let one = ap oneIf (h .0 .train) in absurd (omega arith)
 
@@ -302,7 +302,7 @@ or-else g o e = by (ltb 0 g) refl
 
 -- a half of a desk with no guest that holds nothing and where nothing waits: GUEST, HOLDS and WAIT say nothing of it
 pub quiet : {d o : Desk} {mine theirs : List Movement} → d .guest ≡ 0 → d .clears .holds ≡ 0 → d .waiting ≡ 0
-    → d .clears .owes ≡ o .clears .holds + o .waiting + spent theirs + granted mine → d .out ≡ (ltb 0 (o .guest) || awayAt mine theirs)
+    → d .clears .owes ≡ o .clears .holds + o .waiting + owedOver theirs + granted mine → d .out ≡ (ltb 0 (o .guest) || awayAt mine theirs)
     → InRow mine → Clear mine theirs → Half d o mine theirs
 quiet guest holds waiting sum outs row clear = record {
   sum = sum;
@@ -331,7 +331,7 @@ kept-opener d o t out m mine theirs h p op is-out =
       own = quiet (p .guest) (p .holds) own-waits (omega (arith, h .own .sum, k .grants))
           (is-out ∙ sym (ap (_|| isOpen m) no-guest))
           (ahead, h .own .row) (one-more (h .own .clear));
-      far = quiet (no-test (o .guest) no-guest) (omega (arith, h .own .sum, p .owes)) (omega (arith, h .own .sum, p .owes)) (omega (arith, h .far .sum, k .spends))
+      far = quiet (no-test (o .guest) no-guest) (omega (arith, h .own .sum, p .owes)) (omega (arith, h .own .sum, p .owes)) (omega (arith, h .far .sum, k .owed))
           (h .far .outs ∙ ap (ltb 0 (d .guest) ||_) (far-away m theirs mine (k .return)))
           (h .far .row) (openers (theirs-open (h .far .clear) none-away));
     }
@@ -358,20 +358,20 @@ kept-return d o t a g mine theirs h p =
           (alone .far .outs ∙ rw (lt-ltb 0 (d .guest) (p .guest))) tt (openers tt);
     })
 
--- what a TRAIN takes along of the line clears held: one, and all that are left where it is endorsed as the last
-pub record Spends (endorsed : Bool) (holds granted : ℕ) (m : Movement) : Type 0 where
+-- what a TRAIN, which is m in the section, leaves of the line clears held, and what is owed for it
+pub record Uses (endorsed : Bool) (holds granted : ℕ) (m : Movement) : Type 0 where
   pub train : Trains m
   pub grants : grantedIn m ≡ granted
-  pub sum : clearsLeft endorsed holds + spentIn m ≡ holds
+  pub sum : clearsLeft endorsed holds + owedFor m ≡ holds
   pub more : 0 < clearsLeft endorsed holds → isLast m ≡ false
 
-pub spends : (endorsed : Bool) (holds a g : ℕ) → 0 < holds → Spends endorsed holds g (trainMovement endorsed holds a g)
-spends false holds a g some = record { train = refl; grants = refl; sum = omega arith; more = λ left. refl }
-spends true holds a g some = record { train = refl; grants = refl; sum = omega arith; more = λ left. absurd (omega arith) }
+pub uses : (endorsed : Bool) (holds a g : ℕ) → 0 < holds → Uses endorsed holds g (trainMovement endorsed holds a g)
+uses false holds a g some = record { train = refl; grants = refl; sum = omega arith; more = λ left. refl }
+uses true holds a g some = record { train = refl; grants = refl; sum = omega arith; more = λ left. absurd (omega arith) }
 
 -- a TRAIN, which is m in the section
 pub kept-train : (d o : Desk) (endorsed : Bool) (t g : ℕ) (m : Movement) (mine theirs : List Movement) → Halves d o mine theirs
-    → TrainPasses d g → Spends endorsed (d .clears .holds) g m → Halves (trainDesk endorsed d t g) o (m ∷ mine) theirs
+    → TrainPasses d g → Uses endorsed (d .clears .holds) g m → Halves (trainDesk endorsed d t g) o (m ∷ mine) theirs
 kept-train d o endorsed t g m mine theirs h p k =
     let q = h .own .holding (p .holds) in
     let their-guest : o .guest ≡ 0 = zero-unless (o .guest) (λ some. omega (arith, h .far .guests some, h .far .sum, p .holds)) in
@@ -406,7 +406,7 @@ kept-train d o endorsed t g m mine theirs h p k =
       };
     }
   where
-    none-away : (l : List Movement) → Every Plain l → lastReturn theirs ≡ false → awayAt l theirs ≡ false
+    none-away : (l : List Movement) → Every Unendorsed l → lastReturn theirs ≡ false → awayAt l theirs ≡ false
     none-away [] all last = last
     none-away (n ∷ l) all last = hauled n (all .0 .train) .no-open
 
@@ -416,8 +416,8 @@ kept-train d o endorsed t g m mine theirs h p k =
     answered false asked owes = asked owes
 
     -- and is owed beside nothing else
-    now-owes : (b : Bool) → ltb 0 g ≡ b → d .clears .owes ≡ o .clears .holds + o .waiting + spent theirs + granted mine
-        → cond b g (d .clears .owes) ≡ o .clears .holds + o .waiting + spent theirs + (grantedIn m + granted mine)
+    now-owes : (b : Bool) → ltb 0 g ≡ b → d .clears .owes ≡ o .clears .holds + o .waiting + owedOver theirs + granted mine
+        → cond b g (d .clears .owes) ≡ o .clears .holds + o .waiting + owedOver theirs + (grantedIn m + granted mine)
     now-owes true some sum = omega (arith, k .grants, p .free (ltb-true 0 g some))
     now-owes false none sum = omega (arith, k .grants, ltb-false 0 g none)
 
@@ -446,10 +446,10 @@ kept-own d o t sent m mine theirs h op =
     let k = opener m op in
     let own-guest : d .guest ≡ 0 = zero-unless (d .guest) (λ some. cons-nil (h .own .guests some .none)) in
     let their-guest : o .guest ≡ 0 = zero-unless (o .guest) (λ some. cons-nil (h .far .guests some .none-far)) in
-    let own-holds : d .clears .holds ≡ 0 = zero-unless (d .clears .holds) (λ some. let one = ap oneIf (h .own .holding some .trains .0 .train) in omega (arith, k .spends)) in
+    let own-holds : d .clears .holds ≡ 0 = zero-unless (d .clears .holds) (λ some. let one = ap oneIf (h .own .holding some .trains .0 .train) in omega (arith, k .owed)) in
     let their-holds : o .clears .holds ≡ 0 = zero-unless (o .clears .holds) (λ some. cons-nil (h .far .holding some .none-far)) in
     let own-waits : d .waiting ≡ 0 = zero-unless (d .waiting) (λ some. cons-nil (h .own .waits some .none)) in
-    let their-waits : o .waiting ≡ 0 = zero-unless (o .waiting) (λ some. let one = ap oneIf (h .far .waits some .bare .0 .train) in omega (arith, k .spends)) in
+    let their-waits : o .waiting ≡ 0 = zero-unless (o .waiting) (λ some. let one = ap oneIf (h .far .waits some .bare .0 .train) in omega (arith, k .owed)) in
     let still = released (grantedDesk (grantedIn m) (withOut (cond (isOpen m) false (d .out)) (received d t sent))) own-holds in
     let none-waits : ifAny (grantedIn m) (d .waiting) ≡ 0 = or-else (grantedIn m) (d .waiting) own-waits ∙ k .grants in
     let all-open = theirs-open (h .far .clear) in
@@ -459,7 +459,7 @@ kept-own d o t sent m mine theirs h op =
       own = quiet own-guest (omega (arith, still .sum)) (omega (arith, still .sum)) (omega (arith, h .own .sum, k .grants))
           (in-now (isOpen m) refl their-guest ∙ sym (ap₂ _||_ (zero-test (o .guest) their-guest) none-away))
           (h .own .row .1) (one-less (h .own .clear));
-      far = quiet their-guest their-holds their-waits (omega (arith, h .far .sum, k .spends, still .sum))
+      far = quiet their-guest their-holds their-waits (omega (arith, h .far .sum, k .owed, still .sum))
           (h .far .outs ∙ ap (ltb 0 (d .guest) ||_) (sym (far-away m theirs mine (k .return))))
           (h .far .row) (openers all-open);
     }
@@ -490,8 +490,8 @@ module _ (d o : Desk) (m : Movement) (l : List Movement) (h : Halves d o [] (l +
   their-waits : o .waiting ≡ 0
   their-waits = zero-unless (o .waiting) (λ some. snoc-nil l m (h .far .waits some .none))
 
-  pub own-sum : d .clears .owes ≡ o .clears .holds + (spent l + spentIn m)
-  own-sum = omega (arith, h .own .sum, weigh-snoc spentIn l m, their-waits)
+  pub own-sum : d .clears .owes ≡ o .clears .holds + (owedOver l + owedFor m)
+  own-sum = omega (arith, h .own .sum, weigh-snoc owedFor l m, their-waits)
 
   pub far-sum : o .clears .owes ≡ d .waiting + (granted l + grantedIn m)
   far-sum = omega (arith, h .far .sum, weigh-snoc grantedIn l m, far-holds)
@@ -500,11 +500,11 @@ module _ (d o : Desk) (m : Movement) (l : List Movement) (h : Halves d o [] (l +
   far-row = row-snoc l m (h .far .row)
 
   -- one that is endorsed as the last is all that is owed, with what it gives up: its sender holds none, and behind it no train stands
-  pub closed : isLast m ≡ true → d .clears .owes ≡ spentIn m
-  closed last =
-      let none-held : o .clears .holds ≡ 0 = zero-unless (o .clears .holds) (λ some. clash last (every-before Plain l m (h .far .holding some .trains) .1 .more)) in
+  pub all-owed : isLast m ≡ true → d .clears .owes ≡ owedFor m
+  all-owed last =
+      let none-held : o .clears .holds ≡ 0 = zero-unless (o .clears .holds) (λ some. clash last (every-before Unendorsed l m (h .far .holding some .trains) .1 .more)) in
       let behind = every-map (λ n. Ahead n m) Opens (λ n k. k .last last) l (far-row .1) in
-      omega (arith, own-sum, none-held, openers-spend l behind)
+      omega (arith, own-sum, none-held, openers-owed l behind)
 
   -- where line clears wait, the one that comes is a train that grants nothing
   waits-bare : 0 < d .waiting → Every Bare l × Bare m
@@ -534,9 +534,9 @@ pub kept-guest : (d o : Desk) (t class a : ℕ) (l : List Movement) → Halves d
 kept-guest d o t class a l h guest =
     let m = Open a in
     let nil : l ≡ [] = alone l m (h .far .row) true≢false in
-    let none : spent l ≡ 0 = ap spent nil in
+    let none : owedOver l ≡ 0 = ap owedOver nil in
     let sum = own-sum d o m l h in
-    let their-holds : o .clears .holds ≡ 0 = zero-unless (o .clears .holds) (λ some. false≢true (every-before Plain l m (h .far .holding some .trains) .1 .train)) in
+    let their-holds : o .clears .holds ≡ 0 = zero-unless (o .clears .holds) (λ some. false≢true (every-before Unendorsed l m (h .far .holding some .trains) .1 .train)) in
     let none-waits : d .waiting ≡ 0 = zero-unless (d .waiting) (λ some. false≢true (waits-bare d o m l h some .1 .train)) in
     let still = released (grantedDesk 0 (otherDesk d t class m)) (far-holds d o m l h) in
     record {
@@ -557,10 +557,10 @@ kept-guest d o t class a l h guest =
 -- the line clears that the other's vehicle leaves, before its reply is read
 pub record Brings (d : Desk) (m : Movement) (e : Desk) : Type 0 where
   pub holds : e .clears .holds ≡ d .clears .holds
-  pub owes : e .clears .owes ≡ d .clears .owes - spentIn m
+  pub owes : e .clears .owes ≡ d .clears .owes - owedFor m
   pub waiting : e .waiting ≡ d .waiting
 
-pub brings : (d : Desk) (t class : ℕ) (m : Movement) → (isLast m ≡ true → d .clears .owes ≡ spentIn m) → Brings d m (otherDesk d t class m)
+pub brings : (d : Desk) (t class : ℕ) (m : Movement) → (isLast m ≡ true → d .clears .owes ≡ owedFor m) → Brings d m (otherDesk d t class m)
 brings d t class (Open a) all = record { holds = refl; owes = omega arith; waiting = refl }
 brings d t class Through all = record { holds = refl; owes = omega arith; waiting = refl }
 brings d t class (Return a g) all = record { holds = refl; owes = omega arith; waiting = refl }
@@ -584,7 +584,7 @@ pub kept-far : (d o : Desk) (t class : ℕ) (m : Movement) (l : List Movement) �
 kept-far d o t class m l h n =
     let e = otherDesk d t class m in
     let k = comes d t class m n in
-    let b = brings d t class m (closed d o m l h) in
+    let b = brings d t class m (all-owed d o m l h) in
     let last = row-last l m (far-row d o m l h .1) in
     let own = own-sum d o m l h in
     let far = far-sum d o m l h in
@@ -613,7 +613,7 @@ kept-far d o t class m l h n =
         holding = λ some.
             let q = h .far .holding some in
             let none : replied (grantedIn m) e .clears .holds ≡ 0 = zero-unless _ (λ held. omega (arith, after .holding held)) in
-            record { far-holds = none; waiting = q .waiting; none-far = refl; trains = every-before Plain l m (q .trains) .0; asked = q .asked };
+            record { far-holds = none; waiting = q .waiting; none-far = refl; trains = every-before Unendorsed l m (q .trains) .0; asked = q .asked };
         waits = λ some. absurd (omega (arith, their-waits d o m l h));
         row = far-row d o m l h .0;
         clear = no-far refl;

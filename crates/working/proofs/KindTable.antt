@@ -9,13 +9,13 @@ use Rattle.working.proofs.Edges.{Edge, answersBy, answersTo, expectedOf
 use Rattle.working.proofs.Literals.{begin, counts, figures, meet, opensAs, plain, receive, resume, vehicle, withClock, withOwes, working}
 use Rattle.working.specs.Document01.{decode01, stepOf01}
 use Rattle.working.specs.Sections.{fresh, freshDesk, numberAt, otherAt, padTo, withWaiting}
-use Rattle.working.specs.declared.Answer.the-variants.{Accepted}
+use Rattle.working.specs.declared.Answer.the-variants.{Accepted, Refused}
 use Rattle.working.specs.declared.Desk.{Desk}
 use Rattle.working.specs.declared.Interval.the-variants.{Since, Stopped}
 use Rattle.working.specs.declared.Movement.the-variants.{LastTrain, Open, Return, Through, Train}
 use Rattle.working.specs.declared.Movement.{Movement}
 use Rattle.working.specs.declared.Refusal.the-variants.{AlreadyInForce, BeforeClock, FormsUsed, GrantNotAllowed, GuestHere, HoldsLineClear, IntervalRunning, MayNotEnter}
-use Rattle.working.specs.declared.Refusal.the-variants.{EndsInside, MayNotMeet, NoGuest, NoLineClear, NotInForce, NotNearest, OpenerAway, OwesLineClear, TwelveSent, UnknownKind, VehiclePresent}
+use Rattle.working.specs.declared.Refusal.the-variants.{EndsInside, IllMade, MayNotMeet, NoGuest, NoLineClear, NotInForce, NotNearest, OpenerAway, OwesLineClear, TwelveSent, UnknownKind, VehiclePresent}
 use Rattle.working.specs.declared.Section.{Section}
 use Rattle.working.specs.declared.Speed.the-variants.{Booked, Kmh, Walking}
 use Rattle.working.specs.declared.Speed.{Speed}
@@ -321,7 +321,8 @@ pub before-t02 : (answersBy stepOf01 (before02 A ++ before02 B) ≡ expectedOf (
 unfolding decode01 step-computes stepOf01
 before-t02 = (refl, refl)
 
--- ---- and where T-03 altered it: kind 9 "was refusal 2", also not in force, with a map that is not its own, and with a field out of its range; cut it is 1
+-- ---- and where T-03 altered it: kind 9 "was refusal 2", also not in force, with a map that is not its own, and with a field out of its range; cut it is 1, and an
+-- ill-made section comes first. Every other kind is entered as today, BEGIN, RESUME and MEET row by row
 
 abbrev before03 : Station → List Edge
 before03 x =
@@ -330,9 +331,12 @@ before03 x =
     ∷ refused NoStation fresh (running 9 x 1) UnknownKind
     ∷ refused NoStation fresh (0x01 ∷ 9 ∷ []) UnknownKind
     ∷ refused NoStation fresh (running 9 x 4) UnknownKind
+    ∷ refused NoStation fresh (0x4F ∷ 9 ∷ numberAt x ∷ 0 ∷ 100 ∷ 1 ∷ 1 ∷ []) UnknownKind
+    ∷ refused NoStation fresh (0x2F ∷ 9 ∷ numberAt x ∷ 0 ∷ 100 ∷ 1 ∷ 1 ∷ []) UnknownKind
+    ∷ row (seenFrom x [] (figures 90 7 13 Stopped true 3 6 3 0)) (running 9 x 1) (Refused IllMade) (seenFrom x [] (figures 90 7 13 Stopped true 3 6 3 0))
     ∷ refused NoStation fresh (0x0F ∷ 9 ∷ numberAt x ∷ []) EndsInside
     ∷ []
 
-pub before-t03 : (answersBy stepOf01 (before03 A ++ before03 B) ≡ expectedOf (before03 A ++ before03 B)) × (leavingAnotherBy stepOf01 1 (before03 A ++ before03 B) ≡ [])
+pub before-t03 : let rows = declared ++ before03 A ++ before03 B in (answersBy stepOf01 rows ≡ expectedOf rows) × (leavingAnotherBy stepOf01 1 rows ≡ [])
 unfolding decode01 step-computes stepOf01
 before-t03 = (refl, refl)

@@ -18,6 +18,7 @@ pub mod GivenUp
 pub mod Invariant
 pub mod Judged
 pub mod Kept
+pub mod KindNine
 pub mod KindTable
 pub mod Lists
 pub mod Literals

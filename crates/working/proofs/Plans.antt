@@ -4,8 +4,8 @@
 -- Assumes nothing.
 use Prim.Native.Nat.{_%_, _+_, _<_, _≤_, ℕ}
 use Rattle.working.proofs.Clauses.{Bounds, Few, MovementMade, Shape}
-use Rattle.working.proofs.Invariant.{Halves, hauled, isOpen, kept-opener, kept-return, kept-train, spends}
-use Rattle.working.proofs.ReplyLast.{Allowed01, ReplyLast, last-opener, last-return, last-train}
+use Rattle.working.proofs.Invariant.{Halves, hauled, isOpen, kept-opener, kept-return, kept-train, uses}
+use Rattle.working.proofs.ReplyLast.{Allowed01, ReplyLast, replies-opener, replies-return, replies-train}
 use Rattle.working.proofs.Ranges.{ActMade}
 use Rattle.working.proofs.Reasons.{OpenPasses, depart-passes, open-passes, receive-passes, return-passes, train-passes}
 use Rattle.working.proofs.Scans.{scanned}
@@ -133,7 +133,7 @@ opener-fate act x force d t v out m class forms w b is out-is made kind odd =
       bounds = omega arith;
       made = made;
       keeps = λ o mine theirs h. kept-opener d o t out m mine theirs h p is (out-is p);
-      replies = λ o mine theirs h allowed. last-opener d o t out m mine theirs h p;
+      replies = λ o mine theirs h allowed. replies-opener d o t out m mine theirs h p;
       kind = kind;
       slowly = λ q. and (eqb (forms % 2) 1) (isSlow (openSpeed w)) odd (open-slow w);
     })
@@ -152,7 +152,7 @@ fate (acts.Return asked granted) x force d t v few b =
       bounds = omega (arith, either-most (ltb 0 granted) (few .granted) owes);
       made = omega (arith, p .guest);
       keeps = λ o mine theirs h. kept-return d o t asked granted mine theirs h p;
-      replies = λ o mine theirs h allowed. last-return d o t asked granted mine theirs h p;
+      replies = λ o mine theirs h allowed. replies-return d o t asked granted mine theirs h p;
       kind = refl;
       slowly = λ q. absurd (false≢true q);
     })
@@ -160,7 +160,7 @@ fate (acts.Train endorsed w asked granted) x force d t v few b =
     departs-by (acts.Train endorsed w asked granted) x force d t v (trainTests d granted) _ _ _ (trainMovement endorsed (d .clears .holds) asked granted) 0 _
     (λ n.
     let p = train-passes d granted n in
-    let s = spends endorsed (d .clears .holds) asked granted (p .holds) in
+    let s = uses endorsed (d .clears .holds) asked granted (p .holds) in
     let none : 0 ≤ 8 = omega arith in
     let enquired : d .clears .asked ≤ 8 = omega arith in
     let owes : d .clears .owes ≤ 8 = omega arith in
@@ -168,7 +168,7 @@ fate (acts.Train endorsed w asked granted) x force d t v few b =
       bounds = omega (arith, s .sum, either-most (ltb 0 granted) none enquired, either-most (ltb 0 granted) (few .granted) owes);
       made = train-made endorsed (d .clears .holds) few (omega arith);
       keeps = λ o mine theirs h. kept-train d o endorsed t granted _ mine theirs h p s;
-      replies = λ o mine theirs h. last-train d o endorsed t granted _ mine theirs h p;
+      replies = λ o mine theirs h. replies-train d o endorsed t granted _ mine theirs h p;
       kind = train-kind endorsed;
       slowly = λ q. absurd (clash q (hauled (trainMovement endorsed (d .clears .holds) asked granted) (s .train) .fast));
     })

@@ -129,7 +129,7 @@ module _ (e : Entry) (allowed : judge e ≡ Allowed) where
   no-station absent = nowhere (eqb-true (e .station) 0 (rw (not-true (stands 1 (e .map)) absent) at (taken e allowed .ranges .station)))
 
   its-station : (e .kind ≡ 7 → ⊥) → stands 1 (e .map) ≡ true → Placed (e .kind) (e .station) (Of (stationOf (e .station)))
-  its-station unmet there = own (stationOf (e .station)) (by (between (stands 1 (e .map)) 1 2 (e .station) there (taken e allowed .ranges .station)) (eqb (e .station) 1) refl) unmet
+  its-station no-meet there = own (stationOf (e .station)) (by (between (stands 1 (e .map)) 1 2 (e .station) there (taken e allowed .ranges .station)) (eqb (e .station) 1) refl) no-meet
     where
       by : (1 ≤ e .station) × (e .station ≤ 2) → (b : Bool) → eqb (e .station) 1 ≡ b → e .station ≡ numberAt (cond b A B)
       by range true is = eqb-true (e .station) 1 is

@@ -44,18 +44,16 @@ arrives-own d t (Return a g) is b = absurd (false≢true is)
 arrives-own d t (Train a g) is b = absurd (false≢true is)
 arrives-own d t (LastTrain a g u) is b = absurd (false≢true is)
 
+-- an enquiry takes the place of an older one where there is one
+asked-most : (d : Desk) (a : ℕ) → Bounds d → a ≤ 8 → ifAny a (d .clears .asked) ≤ 8
+asked-most d a b few = let enquired : d .clears .asked ≤ 8 = omega arith in either-most (ltb 0 a) few enquired
+
 pub arrives-far : (d : Desk) (t class : ℕ) (m : Movement) → MovementMade m class → Bounds d → Arrives d (otherDesk d t class m) 0
 arrives-far d t class (Open a) made b = arrived d t 0 _ _ _ (omega arith)
 arrives-far d t class Through made b = arrived d t 0 _ _ _ (omega arith)
-arrives-far d t class (Return a g) made b =
-    let enquired : d .clears .asked ≤ 8 = omega arith in
-    arrived d t 0 _ _ _ (omega (arith, either-most (ltb 0 a) (made .asked) enquired))
-arrives-far d t class (Train a g) made b =
-    let enquired : d .clears .asked ≤ 8 = omega arith in
-    arrived d t 0 _ _ _ (omega (arith, either-most (ltb 0 a) (made .asked) enquired))
-arrives-far d t class (LastTrain a g u) made b =
-    let enquired : d .clears .asked ≤ 8 = omega arith in
-    arrived d t 0 _ _ _ (omega (arith, either-most (ltb 0 a) (made .0 .asked) enquired))
+arrives-far d t class (Return a g) made b = arrived d t 0 _ _ _ (omega (arith, asked-most d a b (made .asked)))
+arrives-far d t class (Train a g) made b = arrived d t 0 _ _ _ (omega (arith, asked-most d a b (made .asked)))
+arrives-far d t class (LastTrain a g u) made b = arrived d t 0 _ _ _ (omega (arith, asked-most d a b (made .0 .asked)))
 
 -- the reply that the vehicle brings, and what waits
 granted-most : (m : Movement) (class : ℕ) → MovementMade m class → grantedIn m ≤ 8

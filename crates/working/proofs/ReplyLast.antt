@@ -2,7 +2,7 @@
 -- grants any but the one nearest its sender. So whoever receives a grant owes nothing after it, and holds it at once, as in document 01.
 -- Assumes nothing.
 use Prim.Native.Nat.{_-_, _<_, _≤_, ℕ}
-use Rattle.working.proofs.Invariant.{Halves, brings, closed, far-holds, far-sum, granted, or-else, own-sum, released, spent, weigh-snoc}
+use Rattle.working.proofs.Invariant.{Halves, all-owed, brings, far-holds, far-sum, granted, or-else, owedOver, own-sum, released, weigh-snoc}
 use Rattle.working.proofs.Reasons.{OpenPasses, ReturnPasses, TrainPasses}
 use Rattle.working.proofs.Tests.{zero-unless}
 use Rattle.working.specs.Acts as acts
@@ -39,18 +39,18 @@ fewer : (endorsed : Bool) (holds : ℕ) → clearsLeft endorsed holds ≤ holds 
 fewer false holds = omega arith
 fewer true holds = omega arith
 
-pub last-opener : (d o : Desk) (t : ℕ) (out : Bool) (m : Movement) (mine theirs : List Movement) → Halves d o mine theirs → OpenPasses d → ReplyLast d mine
+pub replies-opener : (d o : Desk) (t : ℕ) (out : Bool) (m : Movement) (mine theirs : List Movement) → Halves d o mine theirs → OpenPasses d → ReplyLast d mine
     → ReplyLast (withOut out (departed d t)) (m ∷ mine)
-last-opener d o t out m mine theirs h p k = record { waiting = k .waiting; owes = k .owes; near = omega (arith, h .own .sum, p .owes) }
+replies-opener d o t out m mine theirs h p k = record { waiting = k .waiting; owes = k .owes; near = omega (arith, h .own .sum, p .owes) }
 
-pub last-return : (d o : Desk) (t a g : ℕ) (mine theirs : List Movement) → Halves d o mine theirs → ReturnPasses d → ReplyLast d mine
+pub replies-return : (d o : Desk) (t a g : ℕ) (mine theirs : List Movement) → Halves d o mine theirs → ReturnPasses d → ReplyLast d mine
     → ReplyLast (returnDesk d t g) (Return a g ∷ mine)
-last-return d o t a g mine theirs h p k =
+replies-return d o t a g mine theirs h p k =
     record { waiting = k .waiting; owes = λ some. absurd (omega (arith, p .holds)); near = ap granted (h .own .guests (p .guest) .none) }
 
-pub last-train : (d o : Desk) (endorsed : Bool) (t g : ℕ) (m : Movement) (mine theirs : List Movement) → Halves d o mine theirs → TrainPasses d g
+pub replies-train : (d o : Desk) (endorsed : Bool) (t g : ℕ) (m : Movement) (mine theirs : List Movement) → Halves d o mine theirs → TrainPasses d g
     → (0 < g → d .clears .holds ≤ 1) → ReplyLast d mine → ReplyLast (trainDesk endorsed d t g) (m ∷ mine)
-last-train d o endorsed t g m mine theirs h p last k =
+replies-train d o endorsed t g m mine theirs h p last k =
     let free = k .owes (p .holds) in
     record {
       waiting = k .waiting;
@@ -81,13 +81,13 @@ module _ (d o : Desk) (t class : ℕ) (m : Movement) (l : List Movement) (h : Ha
   -- a grant is the last that comes, and its sender holds none
   pub paid : 0 < grantedIn m → taken .clears .owes ≡ 0
   paid some =
-      let none : spent l ≡ 0 = ap spent (alone l m (far .near) some) in
+      let none : owedOver l ≡ 0 = ap owedOver (alone l m (far .near) some) in
       let their-holds : o .clears .holds ≡ 0 = zero-unless (o .clears .holds) (λ held. omega (arith, far .owes held, far-sum d o m l h)) in
-      omega (arith, own-sum d o m l h, brings d t class m (closed d o m l h) .owes)
+      omega (arith, own-sum d o m l h, brings d t class m (all-owed d o m l h) .owes)
 
-  pub last-far : ReplyLast (replied (grantedIn m) taken) [] × ReplyLast o l
-  last-far =
-      let b = brings d t class m (closed d o m l h) in
+  pub replies-far : ReplyLast (replied (grantedIn m) taken) [] × ReplyLast o l
+  replies-far =
+      let b = brings d t class m (all-owed d o m l h) in
       let after = released (grantedDesk (grantedIn m) taken) (b .holds ∙ far-holds d o m l h) in
       let waits = or-else (grantedIn m) (taken .waiting) (b .waiting ∙ own .waiting) in
       let none : replied (grantedIn m) taken .waiting ≡ 0 = zero-unless _ (λ some. omega (arith, after .sum, after .waits some, paid (omega (arith, after .sum)))) in (

@@ -1,12 +1,14 @@
 -- A reply sent ahead of the last train, T-02 on lists from fresh, for either station: it waits while the receiving station owes, and is held when the last train is in.
 -- Document 01 refused it with 16; and of a list that document 01 accepts throughout every answer is as before.
 -- Assumes nothing.
-use Prim.Native.Nat.{_+_, ℕ}
+use Prim.Native.Nat.{_+_, _<_, ℕ}
 use Rattle.working.proofs.AsBefore.{answered-as-before}
 use Rattle.working.proofs.Computing.{step-computes}
 use Rattle.working.proofs.Consequences.{Owed, following, holding, list, owed}
 use Rattle.working.proofs.Lists.{after, done, runs}
 use Rattle.working.proofs.Literals.{receive, train, trainGranting}
+use Rattle.working.specs.Demand3.{vehicleAt}
+use Rattle.working.specs.Departures.{LAST-TRAIN, kindIn}
 use Rattle.working.specs.Document01.{decode01, stepOf01}
 use Rattle.working.specs.Effects.{wayForm}
 use Rattle.working.specs.Runs.{acceptsBy, endBy, results, resultsBy}
@@ -79,13 +81,14 @@ unfolding decode01 step-computes stepOf01
 accepted-before A = refl
 accepted-before B = refl
 
--- every answer and every section, the section at the end, and that nothing waits, by the theorem
+-- every answer and every section, the section at the end, that nothing waits and that no vehicle left on kind 9, by the theorem
 answered-before : (x : Station)
     → let l = list (withTheLast x) in
     (results (runs fresh l) ≡ resultsBy stepOf01 fresh (done fresh l))
     × (after fresh l ≡ endBy stepOf01 fresh (done fresh l))
     × ((y : Station) → deskOf (after fresh l) y .waiting ≡ 0)
+    × ((i : ℕ) → i < after fresh l .len → kindIn (vehicleAt (after fresh l) i .movement) ≡ LAST-TRAIN → ⊥)
 answered-before x =
     let l = list (withTheLast x) in
     let k = answered-as-before (done fresh l) (after fresh l) (runs fresh l) (accepted-before x) in
-    (k .each, k .end, k .waiting)
+    (k .each, k .end, k .waiting, k .unendorsed)

@@ -5,7 +5,7 @@ use Prim.Native.Nat.{_+_, suc, ℕ}
 use Rattle.working.proofs.Changes.{Change, Sound, arrival, departure, emptying, meeting, refusal, well-at}
 use Rattle.working.proofs.Clauses.{Numbered}
 use Rattle.working.proofs.Every.{Every, every-map}
-use Rattle.working.proofs.Invariant.{spent, spentIn, trainOne, weigh}
+use Rattle.working.proofs.Invariant.{owedFor, owedOver, trainOne, weigh}
 use Rattle.working.proofs.Vehicles.{eqb-sym, every-end, every-insert, every-turn, number-same}
 use Rattle.working.proofs.Made.{vehicles-after, vehicles-with}
 use Rattle.working.proofs.Plans.{Departs}
@@ -154,8 +154,8 @@ weigh-both f g [] = refl
 weigh-both f g (m ∷ l) = omega (arith, weigh-both f g l)
 
 -- the trains, as the list of steps tells them, and what they give up
-pub spent-told : (h : List Done) (y : Station) (l : List Vehicle) → Every (Told h) l
-    → sumOver (ofStation y (λ v. oneIf (leftOnTrain (departureOf h v)))) l + sumOver (ofStation y (λ v. givenUpIn (v .movement))) l ≡ spent (movesOf y l)
-spent-told h y l t =
+pub owed-told : (h : List Done) (y : Station) (l : List Vehicle) → Every (Told h) l
+    → sumOver (ofStation y (λ v. oneIf (leftOnTrain (departureOf h v)))) l + sumOver (ofStation y (λ v. givenUpIn (v .movement))) l ≡ owedOver (movesOf y l)
+owed-told h y l t =
     let trains = moves-weight y (λ v. oneIf (leftOnTrain (departureOf h v))) trainOne l (every-map (Told h) _ (λ v k. rw (k .is, k .kind)) l t) in
     ap₂ _+_ trains (carried givenUpIn y l) ∙ sym (weigh-both trainOne givenUpIn (movesOf y l))

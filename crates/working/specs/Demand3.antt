@@ -33,7 +33,7 @@ vehicleAt s i = getD (vehiclesOf s) i unused
 abbrev pub ofStation : Station → (Vehicle → ℕ) → Vehicle → ℕ
 ofStation x f v = cond (isFrom (numberAt x) v) (f v) 0
 
--- "A station's trains are its vehicles that left on TRAIN."
+-- "A station's trains are its vehicles that left on TRAIN." T-03: one endorsed as the last "counts as a train"
 abbrev pub trainsOf : List Done → Section → Station → ℕ
 trainsOf l s x = sumOver (ofStation x (λ v. oneIf (leftOnTrain (departureOf l v)))) (vehiclesOf s)
 

@@ -3,9 +3,11 @@
 -- refusal 16 on a TRAIN, and what a receipt makes of holds; T-03 kind 9, which was refusal 2. What a later request alters is first written out here as it was. The
 -- sections are today's. The step makes nothing wait, moves nothing that waits and sends no vehicle of kind 9, so that from fresh there is none of these; and where there
 -- is none `wellMade` asks what document 01 asks.
-use Prim.Native.Nat.{ℕ}
+use Prim.Native.Nat.{_<_, ℕ}
 use Rattle.working.specs.Acts as acts
 use Rattle.working.specs.Acts.{Act}
+use Rattle.working.specs.Demand3.{vehicleAt}
+use Rattle.working.specs.Departures.{LAST-TRAIN, kindIn}
 use Rattle.working.specs.Effects.{Arrive, Plan, effectOf, otherDesk, ownDesk}
 use Rattle.working.specs.Entries.{entryIn, isCut}
 use Rattle.working.specs.Events.{At, Bad, Begin, Decoded, Event, Meet, Resume, Says, decode}
@@ -66,12 +68,12 @@ effectOf01 (acts.Receive sender form) x d time v = Arrive (arriveDesk01 x d time
 
 -- ---- what T-03 altered
 
--- a whole entry of kind 9, "which was refusal 2", whatever else is right or wrong with it
-abbrev pub isNinth : List ℕ → Bool
-isNinth bytes = not (isCut bytes) && eqb (entryIn bytes .kind) 9
+-- a whole entry of kind 9, "which was refusal 2", whatever else is right or wrong with it; so no TRAIN that comes to the tests and effects above is endorsed
+abbrev pub isKindNine : List ℕ → Bool
+isKindNine bytes = not (isCut bytes) && eqb (entryIn bytes .kind) 9
 
 unfoldable pub decode01 : List ℕ → Decoded
-decode01 bytes = cond (isNinth bytes) (Bad UnknownKind) (decode bytes)
+decode01 bytes = cond (isKindNine bytes) (Bad UnknownKind) (decode bytes)
 
 -- ---- the step
 
@@ -93,11 +95,13 @@ stepOf01 s bytes = ifMade (wellMade s) s (onDecoded01 s (decode01 bytes))
 
 -- ---- "Lists from fresh once accepted throughout are answered as before"
 
--- today's step gave each step of a list the answer and the section of document 01's, the section at the end is the same, and nothing waits
+-- today's step gave each step of a list the answer and the section of document 01's; the section at the end is the same, nothing waits in it, and no vehicle in it left
+-- on kind 9
 pub record AsBefore {l : List Done} {s : Section} (run : Run fresh l s) : Type 0 where
   pub each : results run ≡ resultsBy stepOf01 fresh l
   pub end : s ≡ endBy stepOf01 fresh l
   pub waiting : (x : Station) → deskOf s x .waiting ≡ 0
+  pub unendorsed : (i : ℕ) → i < s .len → kindIn (vehicleAt s i .movement) ≡ LAST-TRAIN → ⊥
 
 abbrev pub AnsweredAsBefore : Type 0
 AnsweredAsBefore = (l : List Done) (s : Section) (run : Run fresh l s) → acceptsBy stepOf01 fresh l ≡ true → AsBefore run

@@ -1,5 +1,5 @@
--- Document 01, "Each entry's effect", with T-02 on the reply that a vehicle brings and T-03 on a TRAIN endorsed as the last: speeds, forms, and the desk after a departure and after a receipt. S is the entry's
--- station, O the other.
+-- Document 01, "Each entry's effect", with T-02 on the reply that a vehicle brings and T-03 on a TRAIN endorsed as the last: speeds, forms, and the desk after a
+-- departure and after a receipt. S is the entry's station, O the other.
 use Prim.Native.Nat.{_+_, _-_, ℕ}
 use Rattle.working.specs.Acts as acts
 use Rattle.working.specs.Acts.{Act}
@@ -108,7 +108,7 @@ trainClears endorsed c granted = record { asked = cond (ltb 0 granted) 0 (c .ask
 abbrev pub trainDesk : Bool → Desk → ℕ → ℕ → Desk
 trainDesk endorsed d time granted = withClears (trainClears endorsed (d .clears) granted) (departed d time)
 
--- T-03: endorsed as the last, "its vehicle .. carries the holds before it, less 1"
+-- T-03: "Its vehicle, recorded as a TRAIN but for the kind, .. carries the holds before it, less 1"
 abbrev pub trainMovement : Bool → ℕ → ℕ → ℕ → Movement
 trainMovement false holds asked granted = Train asked granted
 trainMovement true holds asked granted = LastTrain asked granted (holds - 1)
@@ -148,7 +148,7 @@ otherDesk d time class (LastTrain asked granted givenUp) = withClears (broughtCl
 abbrev pub takenDesk : Station → Desk → ℕ → Vehicle → Desk
 takenDesk x d time v = cond (eqb (v .sender) (numberAt x)) (ownDesk d time (v .movement)) (otherDesk d time (v .class) (v .movement))
 
--- the line clears that a vehicle carries
+-- the line clears that a vehicle grants
 abbrev pub grantedIn : Movement → ℕ
 grantedIn (Open asked) = 0
 grantedIn Through = 0
@@ -170,7 +170,7 @@ releasedDesk d =
 abbrev pub replied : ℕ → Desk → Desk
 replied granted d = releasedDesk (grantedDesk granted d)
 
--- any receipt, in this order: its own effect, in which a TRAIN lowers owes; the reply that the vehicle brings; and what waits
+-- any receipt, in this order: its own effect, in which a train lowers owes; the reply that the vehicle brings; and what waits
 unfoldable pub arriveDesk : Station → Desk → ℕ → Vehicle → Desk
 arriveDesk x d time v = replied (grantedIn (v .movement)) (takenDesk x d time v)
 

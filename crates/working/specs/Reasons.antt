@@ -1,4 +1,4 @@
--- Document 01, "Reasons by who causes them", with T-02 on refusal 16: what each kind is refused for, in rising order. Refusals 1 to 4 stand in Entries.
+-- Document 01, "Reasons by who causes them", with T-02 on refusal 16 and T-03 on kind 9: what each kind is refused for, in rising order. Refusals 1 to 4 stand in Entries.
 use Prim.Native.Nat.{_+_, suc, ℕ}
 use Rattle.working.specs.Acts as acts
 use Rattle.working.specs.Acts.{Act}
@@ -101,6 +101,7 @@ abbrev pub testsOf : Act → Station → Bool → Desk → ℕ → Vehicle → L
 testsOf (acts.Open view class asked) x force d time v = departTests force d time (openTests d)
 testsOf (acts.Through view) x force d time v = departTests force d time (openTests d)
 testsOf (acts.Return asked granted) x force d time v = departTests force d time (returnTests d granted)
+-- T-03: "Kind 9, .. has the map and the refusals of TRAIN"
 testsOf (acts.Train endorsed view asked granted) x force d time v = departTests force d time (trainTests d granted)
 testsOf (acts.Receive sender form) x force d time v = stationTests force d time ++ receiveTests x sender form v
 

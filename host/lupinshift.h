@@ -70,7 +70,7 @@ size_t lupin_end(const uint8_t *log, size_t log_len, uint8_t *out, size_t out_le
 
 /* Puts the ten figures of the log's last line at the front of figures and answers LUPIN_FIGURES: entries, accepted, refused for A,
    refused for B, refused of no station, vehicles present, A holds, A owes, B holds, B owes (enum lupin_figure). Line clears that wait
-   are in none of them. Refused where figures has fewer places, and where the log is longer than LUPIN_LONGEST_LOG: its last line,
+   or are given up are in none of them. Refused where figures has fewer places, and where the log is longer than LUPIN_LONGEST_LOG: its last line,
    `long`, has no figures. */
 size_t lupin_figures(const uint8_t *log, size_t log_len, uint64_t *figures, size_t figures_len);
 

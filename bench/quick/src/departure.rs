@@ -24,6 +24,14 @@ impl Field {
         }
     }
 
+    const fn at_if(there: bool, place: u32) -> Field {
+        if there {
+            Field::at(place)
+        } else {
+            Field::ABSENT
+        }
+    }
+
     #[inline(always)]
     pub const fn of(self, entry: u64) -> u64 {
         entry >> self.low & self.mask
@@ -113,16 +121,8 @@ impl Departure {
             needs: if returns { GUEST } else { HOLDS },
             keep: !(only(returns, GUEST | ASKED) | only(grants, OWES | ASKED) | only(last, HOLDS)),
             add: SENT_ONE + FORM_ONE - only(one, HOLDS_ONE),
-            asked: if asks {
-                Field::at(first)
-            } else {
-                Field::ABSENT
-            },
-            granted: if grants {
-                Field::at(first + asks as u32)
-            } else {
-                Field::ABSENT
-            },
+            asked: Field::at_if(asks, first),
+            granted: Field::at_if(grants, first + asks as u32),
             class: 0,
             taken_back: None,
             // A TRAIN finds one owed: a station owes at least as many as the other

@@ -21,13 +21,13 @@ const PLACE: usize = 10;
 
 pub(crate) const PRESENT: usize = PLACE * Section::PLACES;
 
-const FORCE: usize = 241;
+const FORCE: usize = PRESENT + 1;
 
-const REFUSED: usize = 242;
+const REFUSED: usize = FORCE + 1;
 
-const DESK_A: usize = 254;
+const DESK_A: usize = REFUSED + 12;
 
-const DESK_B: usize = 268;
+const DESK_B: usize = DESK_A + 14;
 
 // What a vehicle left on: kind 0, the unused place, is the OPEN that asks for nothing.
 fn movement_in(kind: u8, asked: u8, granted: u8, given_up: u8) -> Movement
@@ -312,7 +312,7 @@ pub(crate) fn figures_of(s: Section) -> [u8; SECTION_LENGTH] {
     figures
 }
 
-// How many bytes the places in use take where `used` do before the byte at `at`.
+// How many bytes the places in use take, the one with the byte at `at` among them, where those before it take `used`.
 fn used_with(byte: u8, at: usize, used: usize) -> usize
     requires { ⌜ at < 240 ⌝ }
 {

@@ -1,5 +1,5 @@
 -- What a function on a section in lent words answers and leaves, by the step that it takes; and where the ring then starts.
-use Prim.Native.Nat.{_+_, ℕ}
+use Prim.Native.Nat.{ℕ}
 use Rattle.words.specs.Words.{Becomes, DeskBecomes, VehiclesBecome, sectionIn, startIn, startOn, withDeparture}
 use Rattle.working.specs.Effects.{Arrive, Depart, Plan, Refuse, vehicleFor}
 use Rattle.working.specs.Events.{At, Bad, Begin, Decoded, Event, Meet, Resume, Says}
@@ -9,7 +9,6 @@ use Rattle.working.specs.Sections.{countRefusal, deskOf, insertAt, nearestAt, v
 use Rattle.working.specs.Steps.{doneBy, entered, onDecoded, planOf}
 use Rattle.working.specs.declared.Answer.the-variants as answer
 use Rattle.working.specs.declared.Answer.{Answer}
-use Rattle.working.specs.declared.Desk.{Desk}
 use Rattle.working.specs.declared.Movement.{Movement}
 use Rattle.working.specs.declared.Refusal.{Refusal}
 use Rattle.working.specs.declared.Section.{Section}

@@ -1,12 +1,8 @@
-// OPEN, THROUGH, RETURN and TRAIN, endorsed as the last or not: why each is refused, and else the figures that it puts and its driver's order. 7 and 9 are tested first and returned on, so that
-// a kind's own tests stand behind them.
-ghost use Prim.Native.Nat.{_+_, _<_};
+// OPEN, THROUGH, RETURN and TRAIN, endorsed as the last or not: why each is refused, and else the figures that it puts and its driver's order. Refusals 7 and 9 are
+// tested first and returned on, so that a kind's own tests stand behind them.
 ghost use Rattle.entering.specs.Entering.{Enters, Leaves};
-ghost use Rattle.words.specs.Words.{sectionIn};
 ghost use Rattle.working.specs.Acts as acts;
 ghost use Rattle.working.specs.Events.{At, stationOf, viewOf};
-ghost use Rattle.working.specs.Sections.{deskOf};
-ghost use mathlib.Core.Path.{_≡_};
 use crate::answers::refuse;
 use crate::fields::station_of;
 use crate::fields::view_of;
@@ -33,7 +29,6 @@ use words::put_departure;
 use words::put_guest;
 use words::put_out;
 use working::Answer;
-use working::Desk;
 use working::Entry;
 use working::Movement;
 use working::Speed;

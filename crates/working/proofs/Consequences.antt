@@ -215,9 +215,9 @@ through-and-open = (
 )
 
 -- ---- while the working is in force, line clears owed by each station = those the other holds + those waiting at the other + the other's trains in the section
--- + line clears on the way to the other
+-- + those given up that these carry + line clears on the way to the other
 
--- what the clause is about: owed by x, held by the other, waiting there, the other's trains, on the way to the other
+-- what the clause is about: owed by x, held by the other, waiting there, the other's trains, given up by these, on the way to the other
 record Balance : Type 0 where
   force : Bool
   owes : ℕ

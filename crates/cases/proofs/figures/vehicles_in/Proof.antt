@@ -1,4 +1,4 @@
--- `figures::vehicles_in` meets its contract. The loop's invariant: each vehicle below `i` is the one that the nine bytes of its place say.
+-- `figures::vehicles_in` meets its contract. The loop's invariant: each vehicle below `i` is the one that the ten bytes of its place say.
 -- Assumes nothing.
 use Prim.Native.Nat.{_*_, _-_, _<_, _≤_, ℕ}
 use Rattle.cases.proofs.Places.{all-places, place-more}

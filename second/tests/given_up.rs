@@ -359,18 +359,7 @@ fn arriving(station: Station, train: [u8; 3], clears: [u8; 4]) -> Register {
         given_up,
         ..Vehicle::default()
     };
-    section.desks = [Desk {
-        clock: 40,
-        last_form: 9,
-        sent: 3,
-        interval: Some(40),
-        out: true,
-        guest: 4,
-        asked: 6,
-        holds: 1,
-        owes: 2,
-        waiting: 3,
-    }; 2];
+    section.desks = [common::USED_DESK; 2];
     let desk = section.desk_mut(station);
     [desk.asked, desk.holds, desk.owes, desk.waiting] = clears;
     register

@@ -4,9 +4,7 @@
 mod common;
 
 use common::{answer, bytes_of, Register};
-use second::{
-    list, step_by, Desk, Edition, Entry, Kind, Refusal, Section, Speed, Station, Vehicle,
-};
+use second::{list, step_by, Edition, Entry, Kind, Refusal, Section, Speed, Station, Vehicle};
 use Station::{A, B};
 
 /// Asked, holds, owes and waiting of a desk.
@@ -129,18 +127,7 @@ fn with_vehicle(vehicle: Vehicle, station: Station, clears: [u8; 3]) -> Register
     let section = &mut register.section;
     section.places[0] = vehicle;
     section.present = 1;
-    section.desks = [Desk {
-        clock: 40,
-        last_form: 9,
-        sent: 3,
-        interval: Some(40),
-        out: true,
-        guest: 4,
-        asked: 6,
-        holds: 1,
-        owes: 2,
-        waiting: 3,
-    }; 2];
+    section.desks = [common::USED_DESK; 2];
     let desk = section.desk_mut(station);
     [desk.holds, desk.owes, desk.waiting] = clears;
     register

@@ -6,7 +6,7 @@
 
 use second::entry::LONGEST_ENTRY;
 use second::{
-    encode, step, step_in_place, Accepted, Answer, Entry, Refusal, Refused, Section, Speed,
+    encode, step, step_in_place, Accepted, Answer, Desk, Entry, Refusal, Refused, Section, Speed,
 };
 
 /// The bytes of an entry that may be written.
@@ -97,3 +97,17 @@ impl Register {
 pub fn answer(form: u16, forms: u16, speed: Speed) -> Accepted {
     Accepted { form, forms, speed }
 }
+
+/// A desk with every figure above 0, so that a figure altered by mistake shows.
+pub const USED_DESK: Desk = Desk {
+    clock: 40,
+    last_form: 9,
+    sent: 3,
+    interval: Some(40),
+    out: true,
+    guest: 4,
+    asked: 6,
+    holds: 1,
+    owes: 2,
+    waiting: 3,
+};

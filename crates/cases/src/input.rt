@@ -1,18 +1,13 @@
 // A case on standard input: what it is, its head, whose last two bytes are a length, and so many bytes behind them.
-ghost use Prim.Native.Nat.{_*_, _+_, _<_, _≤_};
-ghost use Rattle.cases.specs.Figures.{longestHead, numberAt};
+ghost use Prim.Native.Nat.{_<_, _≤_};
+ghost use Rattle.figures.specs.Figures.{longestHead};
 ghost use Rattle.io.specs.Counts.{Counts};
 ghost use lib.ListN.{length};
 ghost use mathlib.Core.Path.{_≡_};
+use figures::Head;
+use figures::LONGEST_HEAD;
+use figures::number_at;
 use libc::STDIN_FILENO;
-
-// The bytes of a section.
-pub(crate) const SECTION_LENGTH: usize = 282;
-
-// The longest head, of a step: a section's figures, and the length of the bytes behind them.
-pub(crate) const LONGEST_HEAD: usize = SECTION_LENGTH + 2;
-
-pub(crate) type Head = [u8; LONGEST_HEAD];
 
 // What was read: the case, 0 where there is no whole one, and how many bytes lie in the room.
 pub(crate) struct Case {
@@ -25,21 +20,6 @@ pub(crate) fn wide(byte: u8) -> u64
     ensures { λ r. ⌜ (r ≡ byte) × (r < 256) ⌝ }
 {
     byte as u64
-}
-
-// The number that two bytes stand for, high byte first.
-fn number(high: u8, low: u8) -> u16
-    ensures { λ r. ⌜ r ≡ high * 256 + low ⌝ }
-{
-    (high as u16) * 256 + low as u16
-}
-
-// The number at a place, high byte first.
-pub(crate) fn number_at(head: &Head, at: usize) -> u16
-    requires { ⌜ at + 2 ≤ longestHead ⌝ }
-    ensures { λ r. ⌜ r ≡ numberAt (now (head .entry)) at ⌝ }
-{
-    number(head[at], head[at + 1])
 }
 
 // Reads so many bytes to the front of the room, where it has room for them; how many came.

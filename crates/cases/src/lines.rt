@@ -1,16 +1,16 @@
 // The lines that say what came of a case.
 ghost use Prim.Native.Nat.{_≤_};
 ghost use lib.ListN.{length};
-use crate::figures::PRESENT;
-use crate::figures::digest;
-use crate::figures::figures_of;
-use crate::figures::places_used;
+use crate::sections::digest;
+use crate::sections::figures_of;
+use crate::sections::places_used;
 use crate::text::front;
 use crate::text::write;
 use crate::text::write_bytes;
 use crate::text::write_figure;
 use crate::text::write_number;
 use crate::text::write_numbers;
+use figures::PRESENT;
 use working::Answer;
 use working::Entry;
 use working::Read;

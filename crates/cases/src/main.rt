@@ -2,23 +2,23 @@
 // docs/CASES.md has the two formats. The second program wrote the cases, and `stdout` is what it says must come of them.
 ghost use Prim.Native.Nat.{_≤_};
 ghost use lib.ListN.{length};
+use figures::Head;
+use figures::LONGEST_HEAD;
 use figures::entry_in;
+use figures::number_at;
 use figures::section_in;
-use input::Head;
-use input::LONGEST_HEAD;
-use input::number_at;
 use input::read_case;
 use logs::run_log;
 use logs::run_position;
 use steps::run_step;
 use written::run_write;
 
-mod figures;
 mod input;
 mod lines;
 mod logs;
 mod memory;
 mod reading;
+mod sections;
 mod steps;
 mod text;
 mod written;

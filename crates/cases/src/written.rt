@@ -1,9 +1,9 @@
 // A case of an entry handed to the writer: behind a fill point, and at the front of another copy of the buffer.
 ghost use Prim.Native.Nat.{_≤_};
 ghost use lib.ListN.{length};
-use crate::figures::put_bytes;
 use crate::lines::write_place;
 use crate::lines::write_written;
+use crate::sections::put_bytes;
 use crate::text::write_hex;
 use entry::writing::append;
 use entry::writing::write_entry;

@@ -1,0 +1,12 @@
+-- `sections::desk_in` meets its contract: each figure is read at its place.
+-- Assumes nothing.
+use Rattle.figures.proofs.sections.desk_in.Statement.{statement}
+use Rattle.figures.proofs.sections.desk_in.Tie as tie
+use borrow.Author.Needs.{needs}
+
+pub desk-in-spec : {M : Type 1} → statement M
+desk-in-spec =
+    tie.close
+    (tie.spec (λ c κs. search needs) (λ c. search needs) (λ c κs. search needs) (λ c. search needs) (λ c. search needs) (λ c. search needs) (λ c. search needs)
+    (λ c. search needs) (λ c κs. search needs) (λ c κs. search needs) (λ c. search needs) (λ c. search needs) (λ c. search needs) (λ c. search needs)
+    (λ c. search needs) (λ c κs. search needs) (λ c. search needs) (λ c. search needs) (λ c. cc))

@@ -1,0 +1,13 @@
+-- `sections::vehicle_in` meets its contract: each figure is read at its place.
+-- Assumes nothing.
+use Rattle.figures.proofs.sections.vehicle_in.Statement.{statement}
+use Rattle.figures.proofs.sections.vehicle_in.Tie as tie
+use borrow.Author.Needs.{needs}
+
+pub vehicle-in-spec : {M : Type 1} → statement M
+vehicle-in-spec =
+    tie.close
+    (tie.spec (λ c. search needs) (λ c. search needs) (λ c. search needs) (λ c. search needs) (λ c. search needs) (λ c. search needs) (λ c. search needs) (λ c κs. search needs)
+    (λ c. search needs)
+    (λ c. search needs) (λ c. search needs) (λ c κs. search needs) (λ c. search needs) (λ c. search needs) (λ c. search needs) (λ c. search needs)
+    (λ c. search needs) (λ c. search needs) (λ c. cc))

@@ -1,0 +1,33 @@
+// The head of a case: the bytes before its log, its bytes or its buffer.
+ghost use Prim.Native.Nat.{_*_, _+_};
+ghost use Rattle.figures.specs.Figures.{numberAt};
+ghost use mathlib.Core.Path.{_≡_};
+
+// The bytes of a section.
+pub const SECTION_LENGTH: usize = 282;
+
+// The longest head, of a step: a section's figures, and the length of the bytes behind them.
+pub const LONGEST_HEAD: usize = SECTION_LENGTH + 2;
+
+pub type Head = [u8; LONGEST_HEAD];
+
+// The number that two bytes stand for, high byte first.
+fn number(high: u8, low: u8) -> u16
+    ensures { λ r. ⌜ r ≡ high * 256 + low ⌝ }
+{
+    (high as u16) * 256 + low as u16
+}
+
+// The number at a place, high byte first; a byte past the head's end is 0.
+pub fn number_at(head: &Head, at: usize) -> u16
+    ensures { λ r. ⌜ r ≡ numberAt (now (head .entry)) at ⌝ }
+{
+    let bytes = &head[..];
+    if bytes.len() <= at {
+        return 0;
+    }
+    if bytes.len() - at == 1 {
+        return number(bytes[at], 0);
+    }
+    number(bytes[at], bytes[at + 1])
+}

@@ -38,7 +38,8 @@ fn clears_left(endorsed: bool, holds: u8) -> u8
     if endorsed { 0 } else { lowered(holds) }
 }
 
-// A TRAIN leaves on one of the line clears held, and none is left where it is endorsed as the last; where it takes a reply along, the enquiry is answered and what it grants is owed.
+// A TRAIN leaves on one of the line clears held, and none is left where it is endorsed as the last; where it takes a reply along, the enquiry is answered and what it
+// grants is owed.
 pub fn train_clears(endorsed: bool, c: Clears, granted: u8) -> Clears
     ensures { λ r. ⌜ r ≡ trainClears endorsed c granted ⌝ }
 {

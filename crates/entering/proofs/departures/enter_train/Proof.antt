@@ -43,7 +43,8 @@ departs c =
     act-done p (told .enum-told2 .given .1)
     (record {
       answer = rw (c .train-speed .ensures, c .before .view-of .ensures, forms .clear-forms .ensures);
-      words = rw (← clears .train-clears .ensures) (left-with (p .looked) (rw (movement .train-movement .ensures) at (left .depart .ensures)) (withClears (clears .train-clears .result)) (put .put-clears .ensures));
+      words = rw (← clears .train-clears .ensures)
+          (left-with (p .looked) (rw (movement .train-movement .ensures) at (left .depart .ensures)) (withClears (clears .train-clears .result)) (put .put-clears .ensures));
     })
 
 pub enter-train-spec : {M : Type 1} → statement M

@@ -10,11 +10,11 @@ use rules::OPEN_FORMS;
 use rules::THROUGH_FORMS;
 use rules::clear_forms;
 use rules::departure_verdict;
-use rules::open_speed;
 use rules::open_verdict;
 use rules::return_clears;
 use rules::return_verdict;
 use rules::station_verdict;
+use rules::tb602_speed;
 use rules::train_clears;
 use rules::train_movement;
 use rules::train_speed;
@@ -78,7 +78,7 @@ pub(crate) fn enter_open(words: &mut Words, e: Entry) -> Answer
     Answer::Accepted {
         form,
         forms: OPEN_FORMS,
-        speed: open_speed(view_of(e.view)),
+        speed: tb602_speed(view_of(e.view)),
     }
 }
 
@@ -111,7 +111,7 @@ pub(crate) fn enter_through(words: &mut Words, e: Entry) -> Answer
     Answer::Accepted {
         form,
         forms: THROUGH_FORMS,
-        speed: open_speed(view_of(e.view)),
+        speed: tb602_speed(view_of(e.view)),
     }
 }
 

@@ -29,25 +29,29 @@ pub fn vehicle_for(at: Station, form: u16, movement: Movement, class: u8) -> Veh
     }
 }
 
-// OPEN and THROUGH.
-pub fn open_speed(view: View) -> Speed
+// The speed on T/B 602, on which OPEN and THROUGH leave: para 8010 (A), down its three limits.
+pub fn tb602_speed(view: View) -> Speed
     ensures { λ r. ⌜ r ≡ openSpeed view ⌝ }
 {
     match view {
+        // by day, where the view is clear: at most 15
         View::Clear => Speed::Kmh(15),
+        // by night, or where something stands in the view: at most 10
         View::Night => Speed::Kmh(10),
+        // in thick fog, in a storm of wind or dust, wherever else little is seen: walking pace and no more
         View::Impaired => Speed::Walking,
     }
 }
 
-// A train that follows another.
-fn follow_speed(view: View) -> Speed
+// The speed on the caution order of a train that follows another: para 8021, down its two limits.
+pub fn follower_speed(view: View) -> Speed
     ensures { λ r. ⌜ r ≡ followSpeed view ⌝ }
 {
     match view {
+        // on straight track, where the view is clear: 25
         View::Clear => Speed::Kmh(25),
-        View::Night => Speed::Kmh(10),
-        View::Impaired => Speed::Kmh(10),
+        // elsewhere, where a curve, an obstruction, rain or fog narrows the view: 10
+        View::Night | View::Impaired => Speed::Kmh(10),
     }
 }
 
@@ -58,7 +62,7 @@ pub fn train_speed(booked: bool, view: View) -> Speed
     if booked {
         Speed::Booked
     } else {
-        follow_speed(view)
+        follower_speed(view)
     }
 }
 

@@ -43,6 +43,7 @@ pub mod Sentences
 pub mod Session
 pub mod ShortLogs
 pub mod Sides
+pub mod Speeds
 pub mod Swap
 pub mod Tests
 pub mod Told

@@ -1,0 +1,23 @@
+-- T-04: each choice of a speed, by itself, is document 01's for every view (`tb602-speed-as-01`, `follower-speed-as-01`); and a view's number is that of the entries
+-- which are read as this view (`read-as-numbered`). A view has three cases, and in each of them both sides come to the same by computing.
+-- Assumes nothing.
+use Rattle.working.specs.Events.{viewOf}
+use Rattle.working.specs.Speeds.{FollowerSpeedAs01, Tb602SpeedAs01, viewNumber}
+use Rattle.working.specs.declared.View.the-variants.{Clear, Impaired, Night}
+use Rattle.working.specs.declared.View.{View}
+use mathlib.Core.Path.{_≡_, refl}
+
+pub tb602-speed-as-01 : Tb602SpeedAs01
+tb602-speed-as-01 Clear = refl
+tb602-speed-as-01 Night = refl
+tb602-speed-as-01 Impaired = refl
+
+pub follower-speed-as-01 : FollowerSpeedAs01
+follower-speed-as-01 Clear = refl
+follower-speed-as-01 Night = refl
+follower-speed-as-01 Impaired = refl
+
+pub read-as-numbered : (view : View) → viewOf (viewNumber view) ≡ view
+read-as-numbered Clear = refl
+read-as-numbered Night = refl
+read-as-numbered Impaired = refl

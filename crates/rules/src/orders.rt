@@ -29,28 +29,29 @@ pub fn vehicle_for(at: Station, form: u16, movement: Movement, class: u8) -> Veh
     }
 }
 
-// The speed on T/B 602, on which OPEN and THROUGH leave: para 8010 (A), down its three limits.
+// The speed on T/B 602, on which OPEN and THROUGH leave: para 8010 (A), down its limits.
 pub fn tb602_speed(view: View) -> Speed
     ensures { λ r. ⌜ r ≡ openSpeed view ⌝ }
 {
     match view {
-        // by day, where the view is clear: at most 15
+        // by day, with a clear view: at most 15
         View::Clear => Speed::Kmh(15),
-        // by night, or where something stands in the view: at most 10
+        // by night, or with the view obstructed: at most 10
         View::Night => Speed::Kmh(10),
-        // in thick fog, in a storm of wind or dust, wherever else little is seen: walking pace and no more
+        // in dense fog, in a storm of wind or dust, or where anything else impairs the view: walking pace
         View::Impaired => Speed::Walking,
     }
 }
 
-// The speed on the caution order of a train that follows another: para 8021, down its two limits.
+// The speed of a train that follows another: para 8021, down the limits of its caution order.
 pub fn follower_speed(view: View) -> Speed
     ensures { λ r. ⌜ r ≡ followSpeed view ⌝ }
 {
     match view {
-        // on straight track, where the view is clear: 25
+        // where the track is straight and the view clear: at most 25
         View::Clear => Speed::Kmh(25),
-        // elsewhere, where a curve, an obstruction, rain or fog narrows the view: 10
+        // elsewhere, coming to or passing a curve, an obstruction, rain, fog or whatever else narrows the view: at most 10
+        // (document 01 has 10 by night too)
         View::Night | View::Impaired => Speed::Kmh(10),
     }
 }

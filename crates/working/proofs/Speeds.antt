@@ -1,5 +1,5 @@
--- T-04: each choice of a speed, by itself, is document 01's for every view (`tb602-speed-as-01`, `follower-speed-as-01`); and a view's number is that of the entries
--- which are read as this view (`read-as-numbered`). A view has three cases, and in each of them both sides come to the same by computing.
+-- T-04: each choice of a speed, by itself, is document 01's for every view (`tb602-speed-as-01`, `follower-speed-as-01`); and an entry with a view's number is read as
+-- that view (`read-as-numbered`). A view has three cases, and in each of them both sides come to the same by computing.
 -- Assumes nothing.
 use Rattle.working.specs.Events.{viewOf}
 use Rattle.working.specs.Speeds.{FollowerSpeedAs01, Tb602SpeedAs01, viewNumber}

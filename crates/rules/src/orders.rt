@@ -38,7 +38,7 @@ pub fn tb602_speed(view: View) -> Speed
         View::Clear => Speed::Kmh(15),
         // by night, or with the view obstructed: at most 10
         View::Night => Speed::Kmh(10),
-        // in dense fog, in a storm of wind or dust, or where anything else impairs the view: walking pace
+        // in dense fog, in stormy weather, in flying dust, or where anything else impairs the view: walking pace
         View::Impaired => Speed::Walking,
     }
 }

@@ -2,7 +2,7 @@
 -- vehicles present and of a desk, one after another, are those of the definition.
 -- Assumes nothing.
 use Prim.Native.Nat.{_+_, _-_, _<_, ℕ}
-use Rattle.entering.specs.Entering.{Does, Enters, Leaves, Refuses, startIfAnew}
+use Rattle.entering.specs.Entering.{Declares, Does, Enters, Leaves, Refuses, startIfAnew}
 use Rattle.words.proofs.Becoming.{becomes-as, becomes-then, desk-length, desk-then}
 use Rattle.words.specs.Words.{Becomes, DeskBecomes, Met, VehiclesBecome, sectionIn, startIn, startOn, withClears, withDeparture, withGuest, withOut, withReceipt}
 use Rattle.working.proofs.Reasons.{last-passes}
@@ -74,13 +74,13 @@ vehicles-and-desk {w} {w₁} x f start g {d} was present desk =
 
 -- an act's own tests, behind 7 and 9
 abbrev pub ownTests : Act → Station → Desk → ℕ → Vehicle → List Test
-ownTests (acts.Open view class asked) x d time v = openTests d ++ lastTests d time
-ownTests (acts.Through view) x d time v = openTests d ++ lastTests d time
-ownTests (acts.Return asked granted) x d time v = returnTests d granted ++ lastTests d time
-ownTests (acts.Train endorsed view asked granted) x d time v = trainTests d granted ++ lastTests d time
+ownTests (acts.Open view class asked) x d time v = openTests d ++ lastTests (d .sent) (d .last) (d .interval) time
+ownTests (acts.Through view) x d time v = openTests d ++ lastTests (d .sent) (d .last) (d .interval) time
+ownTests (acts.Return asked granted) x d time v = returnTests d granted ++ lastTests (d .sent) (d .last) (d .interval) time
+ownTests (acts.Train endorsed view asked granted) x d time v = trainTests d granted ++ lastTests (d .sent) (d .last) (d .interval) time
 ownTests (acts.Receive sender form) x d time v = receiveTests x sender form v
 
-tests-are : (act : Act) (x : Station) (force : Bool) (d : Desk) (time : ℕ) (v : Vehicle) → testsOf act x force d time v ≡ stationTests force d time ++ ownTests act x d time v
+tests-are : (act : Act) (x : Station) (force : Bool) (d : Desk) (time : ℕ) (v : Vehicle) → testsOf act x force d time v ≡ stationTests force (d .clock) time ++ ownTests act x d time v
 tests-are (acts.Open view class asked) x force d time v = refl
 tests-are (acts.Through view) x force d time v = refl
 tests-are (acts.Return asked granted) x force d time v = refl
@@ -96,16 +96,16 @@ pub record Looked (w : List ℕ) (e : Entry) : Type 0 where
   pub at-is : at ≡ stationOf (e .station)
   pub desk-is : desk ≡ deskOf (sectionIn w) at
   pub force-is : force ≡ sectionIn w .force
-  pub verdict-is : verdict ≡ firstOf (stationTests force desk (e .time))
+  pub verdict-is : verdict ≡ firstOf (stationTests force (desk .clock) (e .time))
 
 abbrev pub look : {w : List ℕ} {e : Entry} {x : Station} {d : Desk} {f : Bool} {v : Verdict} → x ≡ stationOf (e .station) → d ≡ deskOf (sectionIn w) x
-    → f ≡ sectionIn w .force → v ≡ firstOf (stationTests f d (e .time)) → Looked w e
+    → f ≡ sectionIn w .force → v ≡ firstOf (stationTests f (d .clock) (e .time)) → Looked w e
 look at desk force verdict = record { at = _; desk = _; force = _; verdict = _; at-is = at; desk-is = desk; force-is = force; verdict-is = verdict }
 
 -- 7 and 9, an act's own tests and its effect, of what was looked at
 module _ {w : List ℕ} {e : Entry} where
   abbrev pub stationBy : Looked w e → List Test
-  stationBy l = stationTests (l .force) (l .desk) (e .time)
+  stationBy l = stationTests (l .force) (l .desk .clock) (e .time)
 
   abbrev pub ownBy : Looked w e → Act → List Test
   ownBy l act = ownTests act (l .at) (l .desk) (e .time) (nearestAt (l .at) (vehiclesOf (sectionIn w)))
@@ -166,11 +166,12 @@ module _ {w w₁ : List ℕ} {e : Entry} {act : Act} {given : Answer} where
 
 -- a departure that no test refuses has a form number left, and room for one more sent
 pub may-leave : {w : List ℕ} {e : Entry} {act : Act} (p : Passed w e act) (tests : List Test) → let l = p .looked in
-    ownBy l act ≡ tests ++ lastTests (l .desk) (e .time) → p .own ≡ Allowed → (l .desk ≡ deskOf (sectionIn w) (l .at)) × (l .desk .last < 9999) × (l .desk .sent < 12)
+    ownBy l act ≡ tests ++ lastTests (l .desk .sent) (l .desk .last) (l .desk .interval) (e .time) → p .own ≡ Allowed → (l .desk ≡ deskOf (sectionIn w) (l .at)) × (l .desk .last < 9999) × (l .desk .sent < 12)
 may-leave {e = e} p tests are is =
-    let last = lastTests (p .looked .desk) (e .time) in
+    let d = p .looked .desk in
+    let last = lastTests (d .sent) (d .last) (d .interval) (e .time) in
     let none = none-holds (tests ++ last) (ap firstOf (sym are) ∙ sym (p .own-is) ∙ is) in
-    let passes = last-passes (p .looked .desk) (e .time) (none-of-both tests last none .1) in
+    let passes = last-passes (d .sent) (d .last) (d .interval) (e .time) (none-of-both tests last none .1) in
     (p .looked .desk-is, passes .unused, passes .room)
 
 -- a vehicle is put in, and then the figures
@@ -239,14 +240,13 @@ module _ {w w₁ : List ℕ} {given : Answer} where
   declares-by true v is answer words = record { answer = rw is answer; words = rw is words }
   declares-by false v is answer words = record { answer = rw is answer; words = rw is words }
 
-  pub declared-refused : (force : Bool) {why : Refusal} → firstOf (declaredTests force (sectionIn w)) ≡ Refused why → Refuses w NoStation why given w₁ → Enters w (declaring force) given w₁
-  declared-refused force {why} is refuses =
+  -- by what the declaration came to
+  pub declared : (force : Bool) (v : Verdict) → firstOf (declaredTests force (sectionIn w)) ≡ v → Declares w v force given w₁ → Enters w (declaring force) given w₁
+  declared force (Refused why) is refuses =
       let nobodys = subst (λ (z : Whose). Becomes w w₁ (countRefusal z (sectionIn w)) (startIn w)) (sym (of-no-station force)) (refuses .words) in
       declares-by force (Refused why) is (refuses .answer) nobodys
-
-  pub declared-allowed : (force : Bool) → firstOf (declaredTests force (sectionIn w)) ≡ Allowed → given ≡ Accepted 0 0 NoSpeed
-      → Becomes w w₁ (emptied force (sectionIn w .refused)) 0 → Enters w (declaring force) given w₁
-  declared-allowed force is answer words = declares-by force Allowed is answer words
+  declared force Allowed is (answer, own) =
+      declares-by force Allowed is answer (record { section = own .section; start = own .start; own = λ few e. own .words })
 
 -- ---- MEET: 7, then 22, or the two have met
 

@@ -1,21 +1,24 @@
 -- What a function on a section in lent words answers and leaves, by the step that it takes; and where the ring then starts.
 use Prim.Native.Nat.{ℕ}
-use Rattle.words.specs.Words.{Becomes, DeskBecomes, VehiclesBecome, sectionIn, startIn, startOn, withDeparture}
+use Rattle.words.specs.Words.{Becomes, DeskBecomes, OwnWords, RingKept, VehiclesBecome, sectionIn, startIn, startOn, withDeparture}
 use Rattle.working.specs.Effects.{Arrive, Depart, Plan, Refuse, vehicleFor}
 use Rattle.working.specs.Events.{At, Bad, Begin, Decoded, Event, Meet, Resume, Says}
 use Rattle.working.specs.Reasons.{beginTests, resumeTests}
 use Rattle.working.specs.Refusals.{firstOf}
-use Rattle.working.specs.Sections.{countRefusal, deskOf, insertAt, nearestAt, vehiclesOf}
+use Rattle.working.specs.Sections.{countRefusal, deskOf, emptied, insertAt, nearestAt, vehiclesOf}
 use Rattle.working.specs.Steps.{doneBy, entered, onDecoded, planOf}
 use Rattle.working.specs.declared.Answer.the-variants as answer
 use Rattle.working.specs.declared.Answer.{Answer}
 use Rattle.working.specs.declared.Movement.{Movement}
 use Rattle.working.specs.declared.Refusal.{Refusal}
 use Rattle.working.specs.declared.Section.{Section}
+use Rattle.working.specs.declared.Speed.the-variants.{NoSpeed}
 use Rattle.working.specs.declared.Station.{Station}
 use Rattle.working.specs.declared.Verdict.the-variants.{Allowed, Refused}
 use Rattle.working.specs.declared.Verdict.{Verdict}
+use Rattle.working.specs.declared.Whose.the-variants.{NoStation}
 use Rattle.working.specs.declared.Whose.{Whose}
+use mathlib.Core.Bool.{Bool}
 use mathlib.Core.List.{List}
 use mathlib.Core.Path.{_≡_}
 
@@ -47,6 +50,12 @@ startAnswered s (Says event) start = startAfter s event start
 pub record Refuses (before : List ℕ) (whose : Whose) (why : Refusal) (given : Answer) (after : List ℕ) : Type 0 where
   pub answer : given ≡ answer.Refused why
   pub words : Becomes before after (countRefusal whose (sectionIn before)) (startIn before)
+  pub ring : RingKept before after
+
+-- BEGIN or RESUME, by what its tests come to: refused as of no station, or accepted with all made anew, in force or not
+abbrev pub Declares : List ℕ → Verdict → Bool → Answer → List ℕ → Type 0
+Declares before (Refused why) force given after = Refuses before NoStation why given after
+Declares before Allowed force given after = (given ≡ answer.Accepted 0 0 NoSpeed) × OwnWords after (emptied force (sectionIn before .refused))
 
 -- a station's act that comes to a plan
 pub record Does (before : List ℕ) (event : Event) (x : Station) (plan : Plan) (given : Answer) (after : List ℕ) : Type 0 where

@@ -2,41 +2,34 @@
 ghost use Rattle.entering.specs.Entering.{Enters};
 ghost use Rattle.working.specs.Events.{Begin, Meet, Resume, stationOf};
 use crate::answers::accepted;
+use crate::answers::declare;
 use crate::answers::refuse;
-use crate::fields::station_of;
 use rules::begin_verdict;
 use rules::resume_verdict;
+use section::station_of;
 use words::Words;
-use words::empty;
 use words::in_force;
 use words::meet;
 use words::present;
 use working::Answer;
 use working::Entry;
 use working::Refusal;
-use working::Verdict;
 use working::Whose;
 
 pub(crate) fn enter_begin(words: &mut Words) -> Answer
     ensures { λ r. ⌜ Enters (now (words .entry)) Begin r (now (words .exit)) ⌝ }
 {
-    let verdict = begin_verdict(in_force(words));
-    if let Verdict::Refused(why) = verdict {
-        return refuse(words, Whose::NoStation, why);
-    }
-    empty(words, true);
-    accepted()
+    declare(words, begin_verdict(in_force(words)), true)
 }
 
 pub(crate) fn enter_resume(words: &mut Words) -> Answer
     ensures { λ r. ⌜ Enters (now (words .entry)) Resume r (now (words .exit)) ⌝ }
 {
-    let verdict = resume_verdict(in_force(words), present(words));
-    if let Verdict::Refused(why) = verdict {
-        return refuse(words, Whose::NoStation, why);
-    }
-    empty(words, false);
-    accepted()
+    declare(
+        words,
+        resume_verdict(in_force(words), present(words)),
+        false,
+    )
 }
 
 pub(crate) fn enter_meet(words: &mut Words, e: Entry) -> Answer

@@ -4,7 +4,6 @@ ghost use Rattle.entering.specs.Entering.{Enters, Leaves};
 ghost use Rattle.working.specs.Acts as acts;
 ghost use Rattle.working.specs.Events.{At, stationOf, viewOf};
 use crate::answers::refuse;
-use crate::fields::station_of;
 use crate::fields::view_of;
 use rules::OPEN_FORMS;
 use rules::THROUGH_FORMS;
@@ -20,6 +19,7 @@ use rules::train_movement;
 use rules::train_speed;
 use rules::train_verdict;
 use rules::vehicle_for;
+use section::station_of;
 use words::Words;
 use words::desk;
 use words::in_force;
@@ -62,7 +62,7 @@ pub(crate) fn enter_open(words: &mut Words, e: Entry) -> Answer
 {
     let at = station_of(e.station);
     let d = desk(words, at);
-    let verdict = station_verdict(in_force(words), d, e.time);
+    let verdict = station_verdict(in_force(words), d.clock, e.time);
     if let Verdict::Refused(why) = verdict {
         return refuse(words, Whose::Of(at), why);
     }
@@ -89,7 +89,7 @@ pub(crate) fn enter_through(words: &mut Words, e: Entry) -> Answer
 {
     let at = station_of(e.station);
     let d = desk(words, at);
-    let verdict = station_verdict(in_force(words), d, e.time);
+    let verdict = station_verdict(in_force(words), d.clock, e.time);
     if let Verdict::Refused(why) = verdict {
         return refuse(words, Whose::Of(at), why);
     }
@@ -124,7 +124,7 @@ pub(crate) fn enter_return(words: &mut Words, e: Entry) -> Answer
     let asked = e.asked;
     let granted = e.granted;
     let d = desk(words, at);
-    let verdict = station_verdict(in_force(words), d, e.time);
+    let verdict = station_verdict(in_force(words), d.clock, e.time);
     if let Verdict::Refused(why) = verdict {
         return refuse(words, Whose::Of(at), why);
     }
@@ -162,7 +162,7 @@ pub(crate) fn enter_train(words: &mut Words, e: Entry, endorsed: bool) -> Answer
     let asked = e.asked;
     let granted = e.granted;
     let d = desk(words, at);
-    let verdict = station_verdict(in_force(words), d, e.time);
+    let verdict = station_verdict(in_force(words), d.clock, e.time);
     if let Verdict::Refused(why) = verdict {
         return refuse(words, Whose::Of(at), why);
     }

@@ -8,4 +8,7 @@ mod fields;
 mod kinds;
 mod receipts;
 
+pub use answers::accepted;
+pub use answers::declare;
+pub use answers::refuse;
 pub use kinds::answer_to;

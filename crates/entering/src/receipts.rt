@@ -11,7 +11,6 @@ ghost use mathlib.Core.Bool.{true};
 ghost use mathlib.Core.Path.{_≡_};
 use crate::answers::accepted;
 use crate::answers::refuse;
-use crate::fields::station_of;
 use rules::brought_clears;
 use rules::granted_in;
 use rules::lowered;
@@ -20,6 +19,7 @@ use rules::receive_verdict;
 use rules::replied_desk;
 use rules::station_verdict;
 use section::station_number;
+use section::station_of;
 use words::Words;
 use words::desk;
 use words::in_force;
@@ -137,7 +137,7 @@ pub(crate) fn enter_receive(words: &mut Words, e: Entry) -> Answer
     let at = station_of(e.station);
     let sender = station_of(e.sender);
     let d = desk(words, at);
-    let verdict = station_verdict(in_force(words), d, e.time);
+    let verdict = station_verdict(in_force(words), d.clock, e.time);
     if let Verdict::Refused(why) = verdict {
         return refuse(words, Whose::Of(at), why);
     }

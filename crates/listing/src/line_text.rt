@@ -1,6 +1,6 @@
 // The lines of a listing.
 ghost use Prim.Native.Nat.{_*_, _+_, _≤_};
-ghost use Rattle.listing.specs.LineText.{PutsLine, answerText, endFigures, endLine, lastLine, letterAt, lineText, longestLine, roomForLine, speedText};
+ghost use Rattle.listing.specs.LineText.{PutsLine, answerText, bothText, endFigures, endLine, lastLine, letterAt, lineText, longestLine, roomForLine, speedText};
 ghost use Rattle.listing.specs.Text.{Puts, longestField};
 ghost use lib.ListN.{length};
 ghost use mathlib.Core.Path.{_≡_};
@@ -30,23 +30,37 @@ pub(crate) fn letter_at(station: u8) -> u8
     b'-'
 }
 
-// A speed: B booked, W walking pace, - none, else its number.
+// Two figures of a speed, as 25/10.
+fn put_both(block: &mut [u8], at: usize, straight: u8, elsewhere: u8) -> usize
+    requires { ⌜ at + 2 * longestField ≤ length (now block) ⌝ }
+    ensures { λ r. ⌜ Puts (now (block .entry)) at (bothText straight elsewhere) r (now (block .exit)) × (r ≤ at + 2 * longestField) ⌝ }
+{
+    let at = put_field(block, at, straight as usize);
+    let at = put(block, at, b'/');
+    put_number(block, at, elsewhere as usize)
+}
+
+// A speed: B booked, W walking pace, - none, else its number, or both.
 pub(crate) fn put_speed(block: &mut [u8], at: usize, speed: Speed) -> usize
-    requires { ⌜ at + longestField ≤ length (now block) ⌝ }
-    ensures { λ r. ⌜ Puts (now (block .entry)) at (speedText speed) r (now (block .exit)) × (r ≤ at + longestField) ⌝ }
+    requires { ⌜ at + 2 * longestField ≤ length (now block) ⌝ }
+    ensures { λ r. ⌜ Puts (now (block .entry)) at (speedText speed) r (now (block .exit)) × (r ≤ at + 2 * longestField) ⌝ }
 {
     match speed {
         Speed::NoSpeed => put_bytes(block, at, b" -"),
         Speed::Walking => put_bytes(block, at, b" W"),
         Speed::Kmh(kmh) => put_field(block, at, kmh as usize),
         Speed::Booked => put_bytes(block, at, b" B"),
+        Speed::Both {
+            straight,
+            elsewhere,
+        } => put_both(block, at, straight, elsewhere),
     }
 }
 
 // An answer: `no` and the refusal's number, or `ok`, form number, forms and speed.
 pub(crate) fn put_answer(block: &mut [u8], at: usize, answer: Answer) -> usize
-    requires { ⌜ at + 3 + 3 * longestField ≤ length (now block) ⌝ }
-    ensures { λ r. ⌜ Puts (now (block .entry)) at (answerText answer) r (now (block .exit)) × (r ≤ at + 3 + 3 * longestField) ⌝ }
+    requires { ⌜ at + 3 + 4 * longestField ≤ length (now block) ⌝ }
+    ensures { λ r. ⌜ Puts (now (block .entry)) at (answerText answer) r (now (block .exit)) × (r ≤ at + 3 + 4 * longestField) ⌝ }
 {
     match answer {
         Answer::Refused(why) => {

@@ -26,10 +26,9 @@ fn is_under(interval: Interval, time: u16) -> bool
 }
 
 // 7 and 9, which every act of a station is put to first.
-pub fn station_verdict(force: bool, d: Desk, time: u16) -> Verdict
-    ensures { λ r. ⌜ r ≡ firstOf (stationTests force d time) ⌝ }
+pub fn station_verdict(force: bool, clock: u16, time: u16) -> Verdict
+    ensures { λ r. ⌜ r ≡ firstOf (stationTests force clock time) ⌝ }
 {
-    let clock = d.clock;
     if !force {
         return Verdict::Refused(Refusal::NotInForce);
     }
@@ -39,17 +38,11 @@ pub fn station_verdict(force: bool, d: Desk, time: u16) -> Verdict
     Verdict::Allowed
 }
 
-// What a departure's own tests come to, then 17 to 19.
-pub fn departure_verdict(d: Desk, time: u16, own: Verdict) -> Verdict
-    ensures { λ r. ⌜ ((tests : List Test) → own ≡ firstOf tests → r ≡ firstOf (tests ++ lastTests d time)) ⌝ }
+// 17 to 19, which every departure is put to last, by how many count: of a single line the departures, of a double line the trains on its line.
+pub fn last_verdict(counted: u8, last: u16, interval: Interval, time: u16) -> Verdict
+    ensures { λ r. ⌜ r ≡ firstOf (lastTests counted last interval time) ⌝ }
 {
-    let sent = d.sent;
-    let last = d.last;
-    let interval = d.interval;
-    if let Verdict::Refused(why) = own {
-        return Verdict::Refused(why);
-    }
-    if Desk::MOST_SENT <= sent {
+    if Desk::MOST_SENT <= counted {
         return Verdict::Refused(Refusal::TwelveSent);
     }
     if Desk::LAST_FORM <= last {
@@ -59,6 +52,17 @@ pub fn departure_verdict(d: Desk, time: u16, own: Verdict) -> Verdict
         return Verdict::Refused(Refusal::IntervalRunning);
     }
     Verdict::Allowed
+}
+
+// What a departure's own tests come to, then 17 to 19.
+pub fn departure_verdict(d: Desk, time: u16, own: Verdict) -> Verdict
+    ensures { λ r. ⌜ ((tests : List Test) → own ≡ firstOf tests → r ≡ firstOf (tests ++ lastTests (d .sent) (d .last) (d .interval) time)) ⌝ }
+{
+    if let Verdict::Refused(why) = own {
+        return Verdict::Refused(why);
+    }
+    let interval = d.interval;
+    last_verdict(d.sent, d.last, interval, time)
 }
 
 // OPEN and THROUGH.

@@ -4,8 +4,10 @@ mod made;
 mod stations;
 mod vehicles;
 
+pub use made::is_not_later;
 pub use made::well_made;
 pub use stations::other;
 pub use stations::station_number;
+pub use stations::station_of;
 pub use vehicles::is_named;
 pub use vehicles::is_opener;

@@ -131,7 +131,8 @@ fn forms_differ(places: [Vehicle; Section::PLACES], len: usize) -> bool
     differ
 }
 
-fn is_not_later(interval: Interval, clock: u16) -> bool
+// Whether a running interval is not later than the clock.
+pub fn is_not_later(interval: Interval, clock: u16) -> bool
     ensures { λ r. ⌜ r ≡ notLater interval clock ⌝ }
 {
     match interval {

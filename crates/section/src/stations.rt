@@ -1,4 +1,5 @@
 // The two stations.
+ghost use Rattle.working.specs.Events.{stationOf};
 ghost use Rattle.working.specs.Sections.{numberAt, otherAt};
 ghost use mathlib.Core.Path.{_≡_};
 use working::Station;
@@ -20,4 +21,11 @@ pub fn other(at: Station) -> Station
         Station::A => Station::B,
         Station::B => Station::A,
     }
+}
+
+// The station of an entry, by its number.
+pub fn station_of(number: u8) -> Station
+    ensures { λ r. ⌜ r ≡ stationOf number ⌝ }
+{
+    if number == 1 { Station::A } else { Station::B }
 }

@@ -6,7 +6,7 @@ use Rattle.words.specs.Words.{Becomes, Own, OwnWords, sectionIn, startIn, vehic
 use Rattle.working.proofs.Clauses.{blank-made, section-made}
 use Rattle.working.proofs.Made.{length-padTo, length-vehicles}
 use Rattle.working.proofs.Tests.{both}
-use Rattle.working.specs.Sections.{padTo, unused, vehiclesOf, withVehicles}
+use Rattle.working.specs.Sections.{padTo, padWith, unused, vehiclesOf, withVehicles}
 use Rattle.working.specs.WellMade.{all, isBlank, wellMade}
 use Rattle.working.specs.declared.Section.{Section}
 use Rattle.working.specs.declared.Vehicle.{Vehicle}
@@ -21,7 +21,7 @@ blank-is v h = let b = blank-made v h in rw (b .movement, b .sender, b .form, b 
 
 -- n places of which all past the first k are blank
 padded : (n k : ℕ) (l : List Vehicle) → length l ≡ n → all isBlank (drop k l) ≡ true → padTo n (take k l) ≡ l
-unfolding padTo
+unfolding padWith
 padded zero k [] long blank = refl
 padded zero k (v ∷ l) long blank = absurd (omega arith)
 padded (suc n) k [] long blank = absurd (omega arith)

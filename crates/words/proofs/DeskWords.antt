@@ -5,8 +5,8 @@ use Prim.Native.Nat.{_%_, _+_, _-_, _<_, _≤_, suc, zero, ℕ}
 use Rattle.words.proofs.Packing.{one-back}
 use Rattle.words.proofs.Written.{as-written, first-words, set-past, written}
 use Rattle.words.specs.Stores.{DeskPut}
-use Rattle.words.specs.Words.{Becomes, DeskBecomes, countIn, countPlace, sectionIn, startIn, wordCount, wordsFrom, wordsOf}
-use Rattle.words.specs.Words.{deskFrom, deskIn, deskRead, deskWords, deskWordsIn, intervalIn}
+use Rattle.words.specs.Words.{Becomes, DeskBecomes, RingKept, countIn, countPlace, sectionIn, startIn, wordCount, wordsFrom, wordsOf}
+use Rattle.words.specs.Words.{deskFrom, deskIn, deskRead, deskWords, deskWordsIn, intervalIn, ringFrom}
 use Rattle.working.specs.Sections.{countOf, countRefusal, deskOf, oneMore, withDesk, withFigures}
 use Rattle.working.specs.WellMade.{deskLength, intervalNumber}
 use Rattle.working.specs.declared.Clears.{Clears}
@@ -19,7 +19,7 @@ use Rattle.working.specs.declared.Station.{Station}
 use Rattle.working.specs.declared.Whose.the-variants.{NoStation, Of}
 use Rattle.working.specs.declared.Whose.{Whose}
 use lib.ListN.{drop, drop-of-length-le, getD, length, length-drop, set, take, take-append-drop}
-use lib.Seq.{drop-cons, length-take-le, take-all, take-suc}
+use lib.Seq.{drop-cons, drop-drop, drop-set-lt, length-take-le, take-all, take-suc}
 use mathlib.Core.List.{List, [], _++_, _∷_, append-assoc, append-nil}
 use mathlib.Core.Path.{_∙_, _≡_, ap, ap₂, refl, sym}
 use native.Mathlib.Nat.{mod-eq-of-lt}
@@ -98,6 +98,11 @@ desk-fits B = omega arith
 
 -- ---- and all others as they were
 
+-- the ring's words with them
+pub ring-kept : {w after : List ℕ} {x : Station} {put : List ℕ → List ℕ} → DeskPut w after x put → RingKept w after
+ring-kept {w} {after} {x = A} p = sym (drop-drop deskLength (deskFrom A + deskLength) after) ∙ ap (drop deskLength) (p .behind) ∙ drop-drop deskLength (deskFrom A + deskLength) w
+ring-kept {w} {after} {x = B} p = p .behind
+
 pub put-next : {w u after : List ℕ} {x : Station} {p q : List ℕ → List ℕ} → DeskPut w u x p → DeskPut u after x q → DeskPut w after x (λ t. q (p t))
 put-next {w} {u} {after} {x} {p} {q} one two = record {
   long = one .long;
@@ -168,12 +173,19 @@ count-at (Of B) w = refl
 count-at NoStation w = refl
 
 pub count-becomes : (whose : Whose) (w : List ℕ) {n : ℕ} → length w ≡ wordCount → n < 4294967296 → n ≡ oneMore (countIn w whose)
-    → Becomes w (set w (countPlace whose) n) (countRefusal whose (sectionIn w)) (startIn w)
+    → Becomes w (set w (countPlace whose) n) (countRefusal whose (sectionIn w)) (startIn w) × RingKept w (set w (countPlace whose) n)
 count-becomes whose w {n} long fits e =
-    let shown = ap (λ u. set u (countPlace whose) n) (as-written w long) in
-    record {
-      section = ap sectionIn shown ∙ put-count whose w n fits e;
-      start = ap startIn shown ∙ start-count whose w n;
-      own = λ few h.
-          ap₂ (λ u k. set u (countPlace whose) k) h (e ∙ ap oneMore (sym (count-at whose w))) ∙ own-count whose (sectionIn w) (startIn w);
-    }
+    let shown = ap (λ u. set u (countPlace whose) n) (as-written w long) in (
+      record {
+        section = ap sectionIn shown ∙ put-count whose w n fits e;
+        start = ap startIn shown ∙ start-count whose w n;
+        own = λ few h.
+            ap₂ (λ u k. set u (countPlace whose) k) h (e ∙ ap oneMore (sym (count-at whose w))) ∙ own-count whose (sectionIn w) (startIn w);
+      },
+      drop-set-lt ringFrom w (countPlace whose) n (low whose),
+    )
+  where
+    low : (whose : Whose) → countPlace whose < ringFrom
+    low (Of A) = omega arith
+    low (Of B) = omega arith
+    low NoStation = omega arith

@@ -6,7 +6,7 @@ use Rattle.words.proofs.Becoming.{becomes-as, desk-length, own-then}
 use Rattle.words.proofs.Packing.{one-back}
 use Rattle.words.specs.Words.{DeskBecomes, VehiclesBecome, OwnWords, bySlot, oneBack, sectionIn, slotWords, startOn, wordCount, wordsOf}
 use Rattle.working.proofs.Made.{vehicles-with}
-use Rattle.working.specs.Sections.{emptied, insertAt, vehiclesOf, padTo, unused, withDesk, withVehicles}
+use Rattle.working.specs.Sections.{emptied, insertAt, padTo, padWith, unused, vehiclesOf, withDesk, withVehicles}
 use Rattle.working.specs.WellMade.{oneIf}
 use Rattle.working.specs.declared.Counts.{Counts}
 use Rattle.working.specs.declared.Desk.{Desk}
@@ -25,7 +25,7 @@ use native.Mathlib.Omega.{arith}
 
 pub own-emptied : (force : Bool) (counts : Counts) → counts .a < 4294967296 → counts .b < 4294967296 → counts .none < 4294967296
     → OwnWords (set (set (set (set (replicate wordCount 0) 1 (oneIf force)) 2 (counts .a)) 3 (counts .b)) 4 (counts .none)) (emptied force counts)
-unfolding sectionIn wordsOf slotWords bySlot padTo
+unfolding sectionIn wordsOf slotWords bySlot padWith
 own-emptied force counts a b none =
     record { section = rw (one-back force, mod-eq-of-lt a, mod-eq-of-lt b, mod-eq-of-lt none); start = refl; words = refl; fits = omega arith }
 
@@ -50,7 +50,7 @@ own-desk {w} {after} {s} x d own b = own-then own (becomes-as b (ap (λ z. withD
 -- ---- the places read off
 
 pad-snoc : (n : ℕ) (l : List Vehicle) (v : Vehicle) → set (padTo n l) (length l) v ≡ padTo n (l ++ v ∷ [])
-unfolding padTo
+unfolding padWith
 pad-snoc zero l v = refl
 pad-snoc (suc n) [] v = refl
 pad-snoc (suc n) (u ∷ l) v = ap (λ (t : List Vehicle). u ∷ t) (pad-snoc n l v)

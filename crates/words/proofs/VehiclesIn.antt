@@ -12,7 +12,7 @@ use Rattle.words.specs.Words.{bySlot, firstWord, ringFrom, ringIn, round
 use Rattle.working.proofs.Made.{length-padTo, vehicles-with}
 use Rattle.working.proofs.Tests.{each-holds}
 use Rattle.working.specs.Reasons.{findOf, isNamed, mayMeet, meetingTests}
-use Rattle.working.specs.Sections.{vehiclesOf, nearestAt, padTo, unused, withVehicles}
+use Rattle.working.specs.Sections.{nearestAt, padTo, padWith, unused, vehiclesOf, withVehicles}
 use Rattle.working.specs.declared.Section.{Section}
 use Rattle.working.specs.declared.Station.the-variants.{A, B}
 use Rattle.working.specs.declared.Station.{Station}
@@ -49,7 +49,7 @@ places-of w = ap (padTo 24) (vehicles-of w)
 
 -- of the places with vehicles in them, one that is read, and any one if the vehicles are no more than they
 pad-at : (n : ℕ) (l : List Vehicle) (i : ℕ) → i < n → getD (padTo n l) i unused ≡ getD l i unused
-unfolding padTo
+unfolding padWith
 pad-at zero l i h = absurd (omega arith)
 pad-at (suc n) [] zero h = refl
 pad-at (suc n) [] (suc i) h = pad-at n [] i (omega arith)

@@ -246,6 +246,17 @@ pub record Met (before after : List ℕ) (x sender : Station) (form : ℕ) (r : 
 abbrev pub DeskBecomes : List ℕ → List ℕ → Station → (Desk → Desk) → Type 0
 DeskBecomes before after x f = Becomes before after (withDesk (sectionIn before) x (f (deskOf (sectionIn before) x))) (startIn before)
 
+-- the ring's words are as they were
+abbrev pub RingKept : List ℕ → List ℕ → Type 0
+RingKept before after = ringIn after ≡ ringIn before
+
+-- the minute of the last entry alone, and the departures counted alone
+abbrev pub withClock : ℕ → Desk → Desk
+withClock time d = withEntered time (d .last) (d .sent) (d .interval) d
+
+abbrev pub withSent : ℕ → Desk → Desk
+withSent sent d = withEntered (d .clock) (d .last) sent (d .interval) d
+
 -- a departure takes a form number and starts the interval; a receipt stops it
 abbrev pub withDeparture : ℕ → ℕ → ℕ → Desk → Desk
 withDeparture time form sent = withEntered time form sent (Since time)

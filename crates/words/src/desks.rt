@@ -1,7 +1,7 @@
 // What a section holds but for its vehicles, in lent words: how many they are, in force, entries refused, the ring's start, and a word for each figure of the two desks.
 ghost use Prim.Native.Nat.{_+_, _<_, _≤_};
 ghost use Rattle.words.specs.Stores.{DeskPut};
-ghost use Rattle.words.specs.Words.{Becomes, DeskBecomes, sectionIn, startIn, startPlace, withDeparture, withReceipt};
+ghost use Rattle.words.specs.Words.{Becomes, DeskBecomes, RingKept, sectionIn, startIn, startPlace, withClock, withDeparture, withReceipt, withSent};
 ghost use Rattle.words.specs.Words.{countIn, countPlace, deskFrom, deskRead, deskWordsIn, intervalIn};
 ghost use Rattle.working.specs.Sections.{countRefusal, deskOf, oneMore, withClears, withEntered, withGuest, withInterval, withOut, withWaiting};
 ghost use Rattle.working.specs.WellMade.{deskLength};
@@ -56,7 +56,7 @@ const OWES: usize = 8;
 const WAITING: usize = 9;
 
 // The ring of vehicles lies behind the two desks.
-pub(crate) const RING: usize = FIRST_DESK + 2 * Desk::FIGURES;
+pub const RING: usize = FIRST_DESK + 2 * Desk::FIGURES;
 
 pub(crate) const SLOTS: usize = 32;
 
@@ -142,7 +142,9 @@ fn put(words: &mut Words, at: Station, figure: usize, word: u64)
 
 // The minute of the last entry, the last form number, the departures counted and the interval.
 fn put_entered(words: &mut Words, at: Station, clock: u16, last: u16, sent: u8, interval: Interval)
-    ensures { λ _. ⌜ DeskBecomes (now (words .entry)) (now (words .exit)) at (withEntered clock last sent interval) ⌝ }
+    ensures { λ _. ⌜
+        DeskBecomes (now (words .entry)) (now (words .exit)) at (withEntered clock last sent interval) × RingKept (now (words .entry)) (now (words .exit))
+        ⌝ }
 {
     put(words, at, CLOCK, clock as u64);
     put(words, at, LAST, last as u64);
@@ -152,7 +154,9 @@ fn put_entered(words: &mut Words, at: Station, clock: u16, last: u16, sent: u8, 
 
 // What every departure alters: the minute, the form number, the departures counted; and the interval runs from that minute.
 pub fn put_departure(words: &mut Words, at: Station, time: u16, form: u16, sent: u8)
-    ensures { λ _. ⌜ DeskBecomes (now (words .entry)) (now (words .exit)) at (withDeparture time form sent) ⌝ }
+    ensures { λ _. ⌜
+        DeskBecomes (now (words .entry)) (now (words .exit)) at (withDeparture time form sent) × RingKept (now (words .entry)) (now (words .exit))
+        ⌝ }
 {
     put_entered(words, at, time, form, sent, Interval::Since(time));
 }
@@ -164,6 +168,20 @@ pub fn put_receipt(words: &mut Words, at: Station, time: u16, sent: u8)
     put(words, at, CLOCK, time as u64);
     put(words, at, SENT, sent as u64);
     put(words, at, INTERVAL, 0);
+}
+
+// The minute of the last entry alone.
+pub fn put_clock(words: &mut Words, at: Station, time: u16)
+    ensures { λ _. ⌜ DeskBecomes (now (words .entry)) (now (words .exit)) at (withClock time) × RingKept (now (words .entry)) (now (words .exit)) ⌝ }
+{
+    put(words, at, CLOCK, time as u64);
+}
+
+// The departures counted alone.
+pub fn put_sent(words: &mut Words, at: Station, sent: u8)
+    ensures { λ _. ⌜ DeskBecomes (now (words .entry)) (now (words .exit)) at (withSent sent) × RingKept (now (words .entry)) (now (words .exit)) ⌝ }
+{
+    put(words, at, SENT, sent as u64);
 }
 
 // Whether the station's own opener is away.
@@ -197,8 +215,8 @@ pub fn put_waiting(words: &mut Words, at: Station, waiting: u8)
 }
 
 // The whole desk.
-pub(crate) fn put_desk(words: &mut Words, at: Station, d: Desk)
-    ensures { λ _. ⌜ DeskBecomes (now (words .entry)) (now (words .exit)) at (λ _. d) ⌝ }
+pub fn put_desk(words: &mut Words, at: Station, d: Desk)
+    ensures { λ _. ⌜ DeskBecomes (now (words .entry)) (now (words .exit)) at (λ _. d) × RingKept (now (words .entry)) (now (words .exit)) ⌝ }
 {
     let _ = &words[..];
     let figures = d.figures();
@@ -253,7 +271,10 @@ pub fn refused(words: &Words) -> Counts
 
 // One more entry is refused: one more in the count that it belongs to, which stops at its own largest value.
 pub fn count_refusal(words: &mut Words, whose: Whose)
-    ensures { λ _. ⌜ Becomes (now (words .entry)) (now (words .exit)) (countRefusal whose (sectionIn (now (words .entry)))) (startIn (now (words .entry))) ⌝ }
+    ensures { λ _. ⌜
+        Becomes (now (words .entry)) (now (words .exit)) (countRefusal whose (sectionIn (now (words .entry)))) (startIn (now (words .entry)))
+        × RingKept (now (words .entry)) (now (words .exit))
+        ⌝ }
 {
     let _ = &words[..];
     let more = one_more(count(words, whose));

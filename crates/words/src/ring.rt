@@ -36,7 +36,7 @@ use working::Vehicle;
 const ONE_BACK: usize = SLOTS - 1;
 
 // The words of a section with no vehicle and both desks as fresh.
-pub(crate) fn emptied_words(force: bool, counts: Counts) -> Words
+pub fn emptied_words(force: bool, counts: Counts) -> Words
     ensures { λ r. ⌜ OwnWords r (emptied force counts) ⌝ }
 {
     let mut words = [0; WORDS];
@@ -247,7 +247,7 @@ pub fn meet(words: &mut Words, to: Station, sender: Station, form: u16) -> bool
 
 // No vehicle is present, and both desks are as fresh; in force or not.
 pub fn empty(words: &mut Words, force: bool)
-    ensures { λ _. ⌜ Becomes (now (words .entry)) (now (words .exit)) (emptied force (sectionIn (now (words .entry)) .refused)) 0 ⌝ }
+    ensures { λ _. ⌜ OwnWords (now (words .exit)) (emptied force (sectionIn (now (words .entry)) .refused)) ⌝ }
 {
     *words = emptied_words(force, refused(words));
 }

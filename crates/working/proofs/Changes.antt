@@ -14,7 +14,7 @@ use Rattle.working.specs.Acts.{Act}
 use Rattle.working.specs.Effects.{Depart, Departing, Plan, arriveDesk}
 use Rattle.working.specs.Events.{At, Bad, Begin, Decoded, Event, Meet, Resume, Says, decode}
 use Rattle.working.specs.Reasons.{beginTests, findOf, isNamed, mayEnter, mayMeet, meetTests, resumeTests}
-use Rattle.working.specs.Sections.{deskOf, emptied, insertAt, vehiclesOf, nearestAt, otherAt, padTo, withDesk, withVehicles}
+use Rattle.working.specs.Sections.{deskOf, emptied, insertAt, nearestAt, otherAt, padTo, padWith, vehiclesOf, withDesk, withVehicles}
 use Rattle.working.specs.Steps.{accepted, doneBy, entered, metAt, onDecoded, planOf, refused, settled, stepOf, redirectAt}
 use Rattle.working.specs.WellMade.{wellMade}
 use Rattle.working.specs.declared.Counts.{Counts}
@@ -120,7 +120,7 @@ sound-with s x e l f w = record { places = places x; well = made-of s x e l f w 
     places B = length-padTo 24 l
 
 pub sound-emptied : (force : Bool) (counts : Counts) → Sound (emptied force counts)
-unfolding wellMade padTo
+unfolding wellMade padWith
 sound-emptied true counts = record { places = refl; well = refl }
 sound-emptied false counts = record { places = refl; well = refl }
 

@@ -4,7 +4,7 @@
 use Rattle.working.specs.Effects.{arriveDesk}
 use Rattle.working.specs.Entries.{entryIn, judge, lengthOf, mapFits, rangesHold, readAt}
 use Rattle.working.specs.Events.{decode}
-use Rattle.working.specs.Sections.{padTo}
+use Rattle.working.specs.Sections.{padWith}
 use Rattle.working.specs.Steps.{entered, stepOf}
 use Rattle.working.specs.Turns.{turnsFrom}
 use Rattle.working.specs.WellMade.{wellMade}
@@ -14,7 +14,7 @@ unfolding decode entryIn judge lengthOf mapFits rangesHold readAt
 reading-computes = tt
 
 unfoldable pub step-computes : Unit {0}
-unfolding arriveDesk entered padTo reading-computes stepOf wellMade
+unfolding arriveDesk entered padWith reading-computes stepOf wellMade
 step-computes = tt
 
 unfoldable pub turns-compute : Unit {0}

@@ -22,7 +22,7 @@ use Rattle.working.specs.declared.Movement.the-variants.{Open, Return, T
 use Rattle.working.specs.declared.Movement.{Movement}
 use Rattle.working.specs.declared.Refusal.the-variants.{AlreadyInForce, EndsInside, NoGuest, UnknownKind}
 use Rattle.working.specs.declared.Section.{Section}
-use Rattle.working.specs.declared.Speed.the-variants.{Booked, Kmh, NoSpeed, Walking}
+use Rattle.working.specs.declared.Speed.the-variants.{Booked, Both, Kmh, NoSpeed, Walking}
 use Rattle.working.specs.declared.Speed.{Speed}
 use Rattle.working.specs.declared.Station.the-variants.{A, B}
 use Rattle.working.specs.declared.Station.{Station}
@@ -162,6 +162,7 @@ slow (Kmh k) e = by (eqb k 15) refl e
     by true is e = rw (eqb-true k 15 is) at-15
     by false is e = rw (eqb-true k 10 e) at-10
 slow Booked e = absurd (false≢true e)
+slow (Both straight elsewhere) e = absurd (false≢true e)
 
 -- on T/B 602, the 1 of the sum, at one of the three speeds
 abbrev OnTB602 : Departure → Type 0

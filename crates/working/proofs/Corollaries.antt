@@ -19,21 +19,24 @@ use Rattle.working.specs.Demand3.{givenUpIn}
 use Rattle.working.specs.Departures.{isTrain, kindIn}
 use Rattle.working.specs.Effects.{Plan}
 use Rattle.working.specs.Entries.{entryIn, entryTests, judge, lengthOf, mapIn, readAs, readAt}
-use Rattle.working.specs.Events.{At, Bad, Begin, Decoded, Event, Meet, Resume, Says, decode, decodedAs}
+use Rattle.working.specs.Events.{At, Bad, Begin, Decoded, Event, Meet, Resume, Said, Says, decode, eventOf, saidAs}
 use Rattle.working.specs.Reasons.{beginTests, findOf, meetTests, resumeTests, testsOf}
 use Rattle.working.specs.Refusals.{Test, firstOf, numberOf, orElse}
-use Rattle.working.specs.Runs.{Done, Run, next}
+use Rattle.working.specs.Runs.{Done, Run, StepBy, next}
 use Rattle.working.specs.Sections.{deskOf, fresh, vehiclesOf, nearestAt, numberAt, otherAt}
 use Rattle.working.specs.Steps.{doneBy, entered, onDecoded, planOf, settled, unlessRefused}
 use Rattle.working.specs.WellMade.{isFrom}
 use Rattle.working.specs.declared.Answer.the-variants as answer
 use Rattle.working.specs.declared.Answer.{Answer}
 use Rattle.working.specs.declared.Desk.{Desk}
+use Rattle.working.specs.declared.Entry.{Entry}
 use Rattle.working.specs.declared.Movement.the-variants.{LastTrain, Open, Return, Through, Train}
 use Rattle.working.specs.declared.Movement.{Movement}
 use Rattle.working.specs.declared.Refusal.{Refusal}
 use Rattle.working.specs.declared.Section.{Section}
 use Rattle.working.specs.declared.Station.{Station}
+use Rattle.working.specs.declared.Table.the-variants.{SingleLine}
+use Rattle.working.specs.declared.Table.{Table}
 use Rattle.working.specs.declared.Vehicle.{Vehicle}
 use Rattle.working.specs.declared.Verdict.the-variants.{Allowed, Refused}
 use Rattle.working.specs.declared.Verdict.{Verdict}
@@ -46,24 +49,24 @@ use native.Mathlib.Omega.{arith}
 
 -- ---- no step is refused with 5
 
-abbrev notFive : Refusal → Bool
+abbrev pub notFive : Refusal → Bool
 notFive why = not (eqb (numberOf why) 5)
 
 -- an answer, a verdict and a plan that are no 5
-abbrev Fine : Answer → Type 0
+abbrev pub Fine : Answer → Type 0
 Fine (answer.Refused why) = notFive why ≡ true
 Fine (answer.Accepted number forms speed) = Unit {0}
 
-abbrev fineVerdict : Verdict → Type 0
+abbrev pub fineVerdict : Verdict → Type 0
 fineVerdict (Refused why) = notFive why ≡ true
 fineVerdict Allowed = Unit {0}
 
 -- no test of a list gives 5: computed on each list as it stands
-abbrev noFive : List Test → Bool
+abbrev pub noFive : List Test → Bool
 noFive [] = true
 noFive (t ∷ ts) = notFive (t .1) && noFive ts
 
-fine-first : (ts : List Test) → noFive ts ≡ true → fineVerdict (firstOf ts)
+pub fine-first : (ts : List Test) → noFive ts ≡ true → fineVerdict (firstOf ts)
 fine-first [] h = tt
 fine-first (t ∷ ts) h = let p = both (notFive (t .1)) (noFive ts) h in by (t .0) (p .0) (fine-first ts (p .1))
   where
@@ -101,36 +104,37 @@ module _ (s : Section) where
   fine-entered (Meet x sender form) = fine-settled (Says (Meet x sender form)) (meetTests (s .force) (vehiclesOf s) (findOf sender form (vehiclesOf s))) _ refl
   fine-entered Resume = fine-settled (Says Resume) (resumeTests (s .force) (s .len)) _ refl
 
--- what bytes come to is no 5 either
-abbrev FineDecoded : Decoded → Type 0
-FineDecoded (Bad why) = notFive why ≡ true
-FineDecoded (Says e) = Unit {0}
+-- what bytes come to is no 5 either, by either table
+abbrev pub FineSaid : {E : Type 0} → Said E → Type 0
+FineSaid (Bad why) = notFive why ≡ true
+FineSaid (Says e) = Unit {0}
 
-fine-decode : (bytes : List ℕ) → FineDecoded (decode bytes)
-unfolding decode judge
-fine-decode bytes = by-found (found bytes 0)
+pub fine-said : (table : Table) {E : Type 0} (event : Entry → E) (bytes : List ℕ) → FineSaid (saidAs event (readAt table bytes 0))
+unfolding judge
+fine-said table event bytes = by-found (found table bytes 0)
   where
-    by-verdict : (v : Verdict) → fineVerdict v → FineDecoded (decodedAs (readAs v (entryIn bytes) (0 + lengthOf (mapIn bytes))))
+    by-verdict : (v : Verdict) → fineVerdict v → FineSaid (saidAs event (readAs v (entryIn bytes) (0 + lengthOf (mapIn bytes))))
     by-verdict (Refused why) h = h
     by-verdict Allowed h = tt
 
-    by-found : Found bytes 0 → FineDecoded (decodedAs (readAt bytes 0))
+    by-found : Found table bytes 0 → FineSaid (saidAs event (readAt table bytes 0))
     by-found (the-end r) = rw r refl
     by-found (cut r) = rw r refl
-    by-found (whole fits r) = rw r (by-verdict (judge (entryIn bytes)) (fine-first (entryTests (entryIn bytes)) refl))
+    by-found (whole fits r) = rw r (by-verdict (judge table (entryIn bytes)) (fine-first (entryTests table (entryIn bytes)) refl))
 
-fine-decoded : (s : Section) (e : Decoded) → FineDecoded e → Fine (onDecoded s e .answer)
+fine-decoded : (s : Section) (e : Decoded) → FineSaid e → Fine (onDecoded s e .answer)
 fine-decoded s (Bad why) h = h
 fine-decoded s (Says e) h = fine-entered s e
 
 pub never-five : {l : List Done} {s : Section} → Run fresh l s → (before : List Done) (d : Done) (after : List Done)
     → l ≡ before ++ d ∷ after → Fine (d .answer)
-never-five {s = s} run before d after is = let (t, first, later) = split-run before (rw is at run) in by t first later
+unfolding decode
+never-five {s = s} run before d after is = let (t, first, later) = split-run StepBy before (rw is at run) in by t first later
   where
     by : (t : Section) → Run fresh before t → Run t (d ∷ after) s → Fine (d .answer)
     by t r (next {t = u} h more) =
         let did = step-did d t u h in
-        rw (did .answered, step-is t (d .bytes) (kept r .good .sound .well)) (fine-decoded t (decode (d .bytes)) (fine-decode (d .bytes)))
+        rw (did .answered, step-is t (d .bytes) (kept r .good .sound .well)) (fine-decoded t (decode (d .bytes)) (fine-said SingleLine eventOf (d .bytes)))
 
 -- ---- a train that comes is owed
 

@@ -9,7 +9,7 @@ use Rattle.working.proofs.Turns.{entries-sum, turns-few}
 use Rattle.working.specs.Events.{Decoded, decode}
 use Rattle.working.specs.Sections.{countOf, fresh, isSame, noneRefused, oneMore, oneMoreOf, withDesk, withVehicles}
 use Rattle.working.specs.Steps.{stepOf, whoseIs}
-use Rattle.working.specs.Turns.{LogsCounted, Turn, entriesIn, isAccepted, isRefusedOf, ownBytes, refusedIn, sectionAfter, turnsOf}
+use Rattle.working.specs.Turns.{LogsCounted, Turn, entriesIn, isAccepted, isRefusedOf, ownBytes, refusedIn, sectionAfter, single, turnsOf}
 use Rattle.working.specs.WellMade.{oneIf}
 use Rattle.working.specs.declared.Counts.{Counts}
 use Rattle.working.specs.declared.Desk.{Desk}
@@ -77,7 +77,7 @@ module _ (whose : Whose) where
   -- ---- a log
 
   -- the turns refused add to the count, where the sum is not past its largest value
-  count-turns : (log : List ℕ) {l : List Turn} {s : Section} {at : ℕ} → Sound s → Follow log s at l → countIn s + refusedIn whose l ≤ 4294967295
+  count-turns : (log : List ℕ) {l : List (Turn Section)} {s : Section} {at : ℕ} → Sound s → Follow log s at l → countIn s + refusedIn whose l ≤ 4294967295
       → countIn (sectionAfter s l) ≡ countIn s + refusedIn whose l
   count-turns log g (over end) few = omega arith
   count-turns log {s = s} g (and-then {t = t} {l = l} own part later) few =
@@ -90,7 +90,7 @@ module _ (whose : Whose) where
 -- ---- of a log read from a fresh section
 
 -- no count is above the number of entries, and each begins at 0
-refused-few : (whose : Whose) (l : List Turn) → refusedIn whose l ≤ entriesIn l
+refused-few : (whose : Whose) (l : List (Turn Section)) → refusedIn whose l ≤ entriesIn l
 refused-few (Of A) l = omega (arith, entries-sum l)
 refused-few (Of B) l = omega (arith, entries-sum l)
 refused-few NoStation l = omega (arith, entries-sum l)
@@ -102,8 +102,8 @@ none-yet NoStation = refl
 
 pub logs-counted : LogsCounted
 logs-counted log short =
-    let turns = turnsOf fresh log in
-    let few = turns-few (length log) fresh log 0 in
+    let turns = turnsOf single fresh log in
+    let few = turns-few single (length log) fresh log 0 in
     let each : (whose : Whose) → countOf (sectionAfter fresh turns .refused) whose ≡ refusedIn whose turns =
     λ whose. count-turns whose log (sound-emptied false noneRefused) (log-follows fresh log) (omega (arith, none-yet whose, refused-few whose turns))
     ∙ omega (arith, none-yet whose) in

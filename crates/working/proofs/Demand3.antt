@@ -85,8 +85,8 @@ demand3 {l} {s} run = record {
       (slow i (omega arith) (o .0), slow j there (o .1));
   owed = λ force x. owed x;
   swap = λ before d e after x y first second is p q other apart.
-      let (t, front, back) = split-run before (rw is at run) in
-      join-run front (swap-run d e x y first second p q other apart (kept front .good) back);
+      let (t, front, back) = split-run StepBy before (rw is at run) in
+      join-run StepBy front (swap-run d e x y first second p q other apart (kept front .good) back);
 }
   where
     k : Kept l s

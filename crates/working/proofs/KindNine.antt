@@ -25,6 +25,7 @@ use Rattle.working.specs.declared.Entry.{Entry}
 use Rattle.working.specs.declared.Refusal.the-variants.{UnknownKind}
 use Rattle.working.specs.declared.Section.{Section}
 use Rattle.working.specs.declared.Station.{Station}
+use Rattle.working.specs.declared.Table.the-variants.{SingleLine}
 use Rattle.working.specs.declared.Vehicle.{Vehicle}
 use Rattle.working.specs.declared.Verdict.the-variants.{Allowed, Refused}
 use Rattle.working.specs.declared.Verdict.{Verdict}
@@ -82,16 +83,16 @@ nine e =
 
 said-nine : (bytes : List ℕ) → saysLast (decode bytes) ≡ true → isKindNine bytes ≡ true
 unfolding decode
-said-nine bytes = by-found (found bytes 0)
+said-nine bytes = by-found (found SingleLine bytes 0)
   where
     by-verdict : (v : Verdict) → saysLast (decodedAs (readAs v (entryIn bytes) (0 + lengthOf (mapIn bytes)))) ≡ true → eqb (entryIn bytes .kind) 9 ≡ true
     by-verdict (Refused why) h = absurd (false≢true h)
     by-verdict Allowed h = nine (entryIn bytes) h
 
-    by-found : Found bytes 0 → saysLast (decodedAs (readAt bytes 0)) ≡ true → isKindNine bytes ≡ true
+    by-found : Found SingleLine bytes 0 → saysLast (decodedAs (readAt SingleLine bytes 0)) ≡ true → isKindNine bytes ≡ true
     by-found (the-end r) h = absurd (false≢true (rw r at h))
     by-found (cut r) h = absurd (false≢true (rw r at h))
-    by-found (whole fits r) h = rw (le-ltb _ _ fits, by-verdict (judge (entryIn bytes)) (rw r at h))
+    by-found (whole fits r) h = rw (le-ltb _ _ fits, by-verdict (judge SingleLine (entryIn bytes)) (rw r at h))
 
 -- ---- what document 01's step makes of it
 

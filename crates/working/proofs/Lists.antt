@@ -1,13 +1,55 @@
 -- Lists of steps: what either form of the step says is the same, a list may be taken apart and put together, and every list of bytes and forms has a run.
 -- Assumes nothing.
 use Prim.Native.Nat.{ℕ}
-use Rattle.working.specs.Runs.{Done, Form, Run, StepBy, byValue, inPlace, next, results, resultsOf, stop}
+use Rattle.working.specs.Runs.{Done, Form, Run, RunBy, StepBy, byValue, inPlace, next, results, resultsOf, resultsOver, resultsWith, stop}
 use Rattle.working.specs.Steps.{stepOf}
+use Rattle.working.specs.Turns.{Working, single}
 use Rattle.working.specs.declared.Answer.{Answer}
 use Rattle.working.specs.declared.Section.{Section}
 use Rattle.working.specs.declared.Stepped.{Stepped}
 use mathlib.Core.List.{List, [], _++_, _∷_}
-use mathlib.Core.Path.{_∙_, _≡_, ap, ap₂, refl}
+use mathlib.Core.Path.{_∙_, _≡_, ap, ap₂, refl, sym}
+
+-- ---- whatever the section
+
+module _ {S : Type 0} (By : Form → S → List ℕ → Answer → S → Type 0) where
+  pub split-run : (before : List Done) {s u : S} {l : List Done} → RunBy By s (before ++ l) u → (t : S) × RunBy By s before t × RunBy By t l u
+  split-run [] {s} r = (s, stop, r)
+  split-run (d ∷ before) (next h r) = let (t, first, later) = split-run before r in (t, next h first, later)
+
+  pub join-run : {before l : List Done} {s t u : S} → RunBy By s before t → RunBy By t l u → RunBy By s (before ++ l) u
+  join-run stop r = r
+  join-run (next h q) r = next h (join-run q r)
+
+  -- each answer and each section on the way is the definition's, where that is what the two forms say
+  module _ {R : Type 0} (step : S → List ℕ → R) (result : Answer → S → R) (section : R → S) (back : (a : Answer) (s : S) → section (result a s) ≡ s)
+      (says : (f : Form) (s : S) (bytes : List ℕ) (a : Answer) (t : S) → By f s bytes a t → result a t ≡ step s bytes) where
+    pub each-by : {s t : S} {l : List Done} (r : RunBy By s l t) → resultsWith result r ≡ resultsOver step section s l
+    each-by stop = refl
+    each-by (next {s} {t} {d = d} {l = l} h r) =
+        let did = says (d .form) s (d .bytes) (d .answer) t h in
+        ap₂ _∷_ did (each-by r ∙ ap (λ (z : S). resultsOver step section z l) (sym (back (d .answer) t) ∙ ap section did))
+
+-- every list of bytes and forms has a run, where the forms say what is worked
+pub record Todo : Type 0 where
+  pub form : Form
+  pub bytes : List ℕ
+
+module _ {S : Type 0} (W : Working S) where
+  abbrev pub doneBy : S → List Todo → List Done
+  doneBy s [] = []
+  doneBy s (d ∷ l) = record { form = d .form; bytes = d .bytes; answer = W .answer s (d .bytes) } ∷ doneBy (W .after s (d .bytes)) l
+
+  abbrev pub afterBy : S → List Todo → S
+  afterBy s [] = s
+  afterBy s (d ∷ l) = afterBy (W .after s (d .bytes)) l
+
+  pub runs-by : (By : Form → S → List ℕ → Answer → S → Type 0) → ((f : Form) (s : S) (bytes : List ℕ) → By f s bytes (W .answer s bytes) (W .after s bytes))
+      → (s : S) (l : List Todo) → RunBy By s (doneBy s l) (afterBy s l)
+  runs-by By does s [] = stop
+  runs-by By does s (d ∷ l) = next (does (d .form) s (d .bytes)) (runs-by By does (W .after s (d .bytes)) l)
+
+-- ---- the single line
 
 -- what a step did, whatever its form
 pub record StepDid (d : Done) (s t : Section) : Type 0 where
@@ -26,35 +68,17 @@ pub step-by : (f : Form) (s : Section) (bytes : List ℕ) {a : Answer} {t : Sect
 step-by byValue s bytes p q = λ i. record { answer = p i; section = q i }
 step-by inPlace s bytes p q = (p, q)
 
--- each answer and each section on the way is the definition's
 pub each-result : {s t : Section} {l : List Done} (r : Run s l t) → results r ≡ resultsOf s l
-each-result stop = refl
-each-result (next {s} {t} {d = d} {l = l} h r) =
-    let did = step-did d s t h in
-    ap₂ _∷_ (λ i. record { answer = did .answered i; section = did .left i }) (each-result r ∙ ap (λ (z : Section). resultsOf z l) (did .left))
-
-pub split-run : (before : List Done) {s u : Section} {l : List Done} → Run s (before ++ l) u → (t : Section) × Run s before t × Run t l u
-split-run [] {s} r = (s, stop, r)
-split-run (d ∷ before) (next h r) = let (t, first, later) = split-run before r in (t, next h first, later)
-
-pub join-run : {before l : List Done} {s t u : Section} → Run s before t → Run t l u → Run s (before ++ l) u
-join-run stop r = r
-join-run (next h q) r = next h (join-run q r)
-
--- ---- every list of bytes and forms has a run
-
-pub record Todo : Type 0 where
-  pub form : Form
-  pub bytes : List ℕ
+each-result r =
+    each-by StepBy stepOf (λ answer s. record { answer = answer; section = s }) (λ (r : Stepped). r .section) (λ answer s. refl)
+    (λ f s bytes answer t h. let did = step-did (record { form = f; bytes = bytes; answer = answer }) s t h in λ i. record { answer = did .answered i; section = did .left i })
+    r
 
 abbrev pub done : Section → List Todo → List Done
-done s [] = []
-done s (d ∷ l) = record { form = d .form; bytes = d .bytes; answer = stepOf s (d .bytes) .answer } ∷ done (stepOf s (d .bytes) .section) l
+done s l = doneBy single s l
 
 abbrev pub after : Section → List Todo → Section
-after s [] = s
-after s (d ∷ l) = after (stepOf s (d .bytes) .section) l
+after s l = afterBy single s l
 
 pub runs : (s : Section) (l : List Todo) → Run s (done s l) (after s l)
-runs s [] = stop
-runs s (d ∷ l) = next (step-by (d .form) s (d .bytes) refl refl) (runs (stepOf s (d .bytes) .section) l)
+runs = runs-by single StepBy (λ f s bytes. step-by f s bytes refl refl)

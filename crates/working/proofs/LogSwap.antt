@@ -12,11 +12,12 @@ use Rattle.working.specs.Entries.{goesOn, readAt}
 use Rattle.working.specs.Events.{At, Event, Says, decode, decodedAs}
 use Rattle.working.specs.Runs.{Done, Form, byValue, stepFor, stepsOf}
 use Rattle.working.specs.Sections.{fresh}
-use Rattle.working.specs.Turns.{AcceptedIn, Turn, answersIn, behind, changedAbout, ownBytes, sectionAfter, turnsOf}
+use Rattle.working.specs.Turns.{AcceptedIn, Turn, answersIn, behind, changedAbout, ownBytes, sectionAfter, single, turnsOf}
 use Rattle.working.specs.declared.Read.the-variants.{End, Refused, Whole}
 use Rattle.working.specs.declared.Read.{Read}
 use Rattle.working.specs.declared.Section.{Section}
 use Rattle.working.specs.declared.Station.{Station}
+use Rattle.working.specs.declared.Table.the-variants.{SingleLine}
 use lib.ListN.{drop, length, take, take-append-drop}
 use lib.Seq.{take-at}
 use mathlib.Core.List.{List, [], _++_, _∷_, append-assoc, append-cancel-left, append-cancel-right, map, map-append, map-map}
@@ -30,7 +31,7 @@ use native.Mathlib.Omega.{arith}
 says-whole : (own : List ℕ) (event : Event) (l : List Done) → decode own ≡ Says event → Part own l → IsEntry own
 unfolding decode
 says-whole own event l says (whole-entry is) = is
-says-whole own event l says (cut-short cut no-more) = by (readAt own 0) says (cut .1)
+says-whole own event l says (cut-short cut no-more) = by (readAt SingleLine own 0) says (cut .1)
   where
     by : (read : Read) → decodedAs read ≡ Says event → goesOn read ≡ none → IsEntry own
     by End e g = cc
@@ -58,14 +59,14 @@ joined-append (b ∷ before) l = ap (b .bytes ++_) (joined-append before l) ∙ 
 -- ---- where two neighbours stand in the log
 
 -- the turns up to t and u, these two, and those behind them
-record Neighbours (f : Form) (log : List ℕ) (at : ℕ) (before : List Turn) (t u : Turn) (after : List Turn) : Type 0 where
+record Neighbours (f : Form) (log : List ℕ) (at : ℕ) (before : List (Turn Section)) (t u : Turn Section) (after : List (Turn Section)) : Type 0 where
   from : Section
   first : Own log from (t .at) t
   second : Own log (t .after) (behind log t) u
   later : Follow log (u .after) (behind log u) after
   bytes : joined (map (stepFor f log) before) ++ drop (t .at) log ≡ drop at log
 
-neighbours-in : (f : Form) (log : List ℕ) (before : List Turn) {t u : Turn} {after : List Turn} {s : Section} {at : ℕ}
+neighbours-in : (f : Form) (log : List ℕ) (before : List (Turn Section)) {t u : Turn Section} {after : List (Turn Section)} {s : Section} {at : ℕ}
     → Follow log s at (before ++ t ∷ u ∷ after)
     → Neighbours f log at before t u after
 neighbours-in f log [] {t} {s = s} (and-then own part (and-then own₁ part₁ later)) = record {
@@ -85,7 +86,7 @@ neighbours-in f log (b ∷ before) {t} (and-then own part later) =
       bytes = append-assoc (ownBytes log b) (joined (map (stepFor f log) before)) (drop (t .at) log) ∙ ap (ownBytes log b ++_) (k .bytes) ∙ sym (own .parts);
     }
 
-module _ (f : Form) (log : List ℕ) (before : List Turn) (t u : Turn) (after : List Turn) (is : turnsOf fresh log ≡ before ++ t ∷ u ∷ after) where
+module _ (f : Form) (log : List ℕ) (before : List (Turn Section)) (t u : Turn Section) (after : List (Turn Section)) (is : turnsOf single fresh log ≡ before ++ t ∷ u ∷ after) where
   abbrev head : List Done
   head = map (stepFor f log) before
 
@@ -112,11 +113,11 @@ module _ (f : Form) (log : List ℕ) (before : List Turn) (t u : Turn) (after : 
 -- the other way round, each with its own bytes and the answer it had, and ends in the same section
 abbrev pub LogSwap : Type 0
 LogSwap =
-    (f : Form) (log : List ℕ) (before : List Turn) (t u : Turn) (after : List Turn) (x y : Station) (first second : Act)
-    → turnsOf fresh log ≡ before ++ t ∷ u ∷ after
+    (f : Form) (log : List ℕ) (before : List (Turn Section)) (t u : Turn Section) (after : List (Turn Section)) (x y : Station) (first second : Act)
+    → turnsOf single fresh log ≡ before ++ t ∷ u ∷ after
     → AcceptedIn t x first → AcceptedIn u y second → (x ≡ y → ⊥) → (ReceivesIt first x (t .answer) second → ⊥)
     → (stepsOf f fresh (changedAbout log t u) ≡ map (stepFor f log) before ++ stepFor f log u ∷ stepFor f log t ∷ map (stepFor f log) after)
-    × (sectionAfter fresh (turnsOf fresh (changedAbout log t u)) ≡ sectionAfter fresh (turnsOf fresh log))
+    × (sectionAfter fresh (turnsOf single fresh (changedAbout log t u)) ≡ sectionAfter fresh (turnsOf single fresh log))
 
 pub log-swap : LogSwap
 log-swap f log before t u after x y first second is p q other apart =
@@ -138,12 +139,12 @@ log-swap f log before t u after x y first second is p q other apart =
 -- two parts of a log that are neighbouring entries' own bytes change places: the same answers with those two changed about, and the same section
 abbrev pub PartsSwap : Type 0
 PartsSwap =
-    (p a b q : List ℕ) (before : List Turn) (t u : Turn) (after : List Turn) (x y : Station) (first second : Act)
-    → turnsOf fresh (p ++ (a ++ (b ++ q))) ≡ before ++ t ∷ u ∷ after
+    (p a b q : List ℕ) (before : List (Turn Section)) (t u : Turn Section) (after : List (Turn Section)) (x y : Station) (first second : Act)
+    → turnsOf single fresh (p ++ (a ++ (b ++ q))) ≡ before ++ t ∷ u ∷ after
     → t .at ≡ length p → ownBytes (p ++ (a ++ (b ++ q))) t ≡ a → ownBytes (p ++ (a ++ (b ++ q))) u ≡ b
     → AcceptedIn t x first → AcceptedIn u y second → (x ≡ y → ⊥) → (ReceivesIt first x (t .answer) second → ⊥)
-    → (answersIn (turnsOf fresh (p ++ (b ++ (a ++ q)))) ≡ answersIn before ++ u .answer ∷ t .answer ∷ answersIn after)
-    × (sectionAfter fresh (turnsOf fresh (p ++ (b ++ (a ++ q)))) ≡ sectionAfter fresh (turnsOf fresh (p ++ (a ++ (b ++ q)))))
+    → (answersIn (turnsOf single fresh (p ++ (b ++ (a ++ q)))) ≡ answersIn before ++ u .answer ∷ t .answer ∷ answersIn after)
+    × (sectionAfter fresh (turnsOf single fresh (p ++ (b ++ (a ++ q)))) ≡ sectionAfter fresh (turnsOf single fresh (p ++ (a ++ (b ++ q)))))
 
 pub parts-swap : PartsSwap
 parts-swap p a b q before t u after x y first second is at own-t own-u ok-t ok-u other apart =

@@ -11,7 +11,7 @@ use Rattle.working.proofs.Tests.{and, both, clash, or-second}
 use Rattle.working.specs.Acts.{Act}
 use Rattle.working.specs.Effects.{Departing, arriveDesk, grantedIn, replied}
 use Rattle.working.specs.Reasons.{mayEnter}
-use Rattle.working.specs.Sections.{deskOf, insertAt, vehiclesOf, numberAt, otherAt, padTo, unused, withDesk, withVehicles}
+use Rattle.working.specs.Sections.{deskOf, insertAt, numberAt, otherAt, padTo, padWith, unused, vehiclesOf, withDesk, withVehicles}
 use Rattle.working.specs.WellMade.{all, countFrom, differ, isBlank, isFrom, oneIf, ordered, same, wellMade}
 use Rattle.working.specs.declared.Desk.{Desk}
 use Rattle.working.specs.declared.Section.{Section}
@@ -158,24 +158,32 @@ well-arrive x d o time v l w may = by (receipt x d time v may)
 
 -- ---- the section
 
+module _ {T : Type 0} (blank : T) where
+  -- what was put in n places is what is read there, and n they stay
+  pub front-padded : (n : ℕ) (l : List T) → length l ≤ n → take (length l) (padWith blank n l) ≡ l
+  unfolding padWith
+  front-padded n [] h = refl
+  front-padded zero (x ∷ l) h = absurd (omega arith)
+  front-padded (suc n) (x ∷ l) h = ap (x ∷_) (front-padded n l (omega arith))
+
+  pub length-padded : (n : ℕ) (l : List T) → length (padWith blank n l) ≡ n
+  unfolding padWith
+  length-padded zero l = refl
+  length-padded (suc n) [] = ap suc (length-padded n [])
+  length-padded (suc n) (x ∷ l) = ap suc (length-padded n l)
+
 pub vehicles-with : (n : ℕ) (l : List Vehicle) → length l ≤ n → take (length l) (padTo n l) ≡ l
-unfolding padTo
-vehicles-with n [] h = refl
-vehicles-with zero (x ∷ l) h = absurd (omega arith)
-vehicles-with (suc n) (x ∷ l) h = ap (x ∷_) (vehicles-with n l (omega arith))
+vehicles-with n l h = front-padded unused n l h
 
 pub vehicles-after : (s : Section) (x : Station) (e : Desk) (l : List Vehicle) → length l ≤ 24 → vehiclesOf (withDesk (withVehicles s l) x e) ≡ l
 vehicles-after s A e l h = vehicles-with 24 l h
 vehicles-after s B e l h = vehicles-with 24 l h
 
 pub length-padTo : (n : ℕ) (l : List Vehicle) → length (padTo n l) ≡ n
-unfolding padTo
-length-padTo zero l = refl
-length-padTo (suc n) [] = ap suc (length-padTo n [])
-length-padTo (suc n) (x ∷ l) = ap suc (length-padTo n l)
+length-padTo n l = length-padded unused n l
 
 rest-blank : (n : ℕ) (l : List Vehicle) → all isBlank (drop (length l) (padTo n l)) ≡ true
-unfolding padTo
+unfolding padWith
 rest-blank zero [] = refl
 rest-blank zero (v ∷ l) = refl
 rest-blank (suc n) [] = rest-blank n []

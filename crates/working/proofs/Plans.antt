@@ -181,7 +181,7 @@ fate (acts.Train endorsed w asked granted) x force d t v few b =
     train-kind false = refl
     train-kind true = refl
 fate (acts.Receive y k) x force d t v made b =
-    scanned (λ r. Fate (acts.Receive y k) x force d t v (unlessRefused r (Arrive (arriveDesk x d t v)))) (stationTests force d t ++ receiveTests x y k v) refuses
+    scanned (λ r. Fate (acts.Receive y k) x force d t v (unlessRefused r (Arrive (arriveDesk x d t v)))) (stationTests force (d .clock) t ++ receiveTests x y k v) refuses
     (λ n.
     let p = receive-passes force d t x y k v n in
     arrives y k refl (p .begun) (p .named) (p .enters))

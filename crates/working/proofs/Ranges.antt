@@ -1,4 +1,4 @@
--- What a taken entry's ranges say of its act: the class and what is asked and granted lie where document 01 has them; and how its kind and its station tell whose it is.
+-- What a taken SingleLine entry's ranges say of its act: the class and what is asked and granted lie where document 01 has them; and how its kind and its station tell whose it is.
 -- The kind fixes which bits stand, and a field that is there lies in its range, while one that is absent is 0.
 -- Assumes nothing.
 use Prim.Native.Nat.{_+_, _<_, _≤_, ℕ}
@@ -17,6 +17,7 @@ use Rattle.working.specs.declared.Entry.{Entry}
 use Rattle.working.specs.declared.Refusal.{Refusal}
 use Rattle.working.specs.declared.Station.the-variants.{A, B}
 use Rattle.working.specs.declared.Station.{Station}
+use Rattle.working.specs.declared.Table.the-variants.{SingleLine}
 use Rattle.working.specs.declared.Verdict.the-variants.{Allowed}
 use Rattle.working.specs.declared.Whose.the-variants.{NoStation, Of}
 use Rattle.working.specs.declared.Whose.{Whose}
@@ -83,26 +84,26 @@ isBad (Says event) = ⊥
 bad-says : {why : Refusal} {event : Event} → Bad why ≡ Says event → ⊥
 bad-says e = subst isBad e tt
 
--- ---- a taken entry
+-- ---- a taken SingleLine entry
 
-module _ (e : Entry) (allowed : judge e ≡ Allowed) where
+module _ (e : Entry) (allowed : judge SingleLine e ≡ Allowed) where
   known : (1 ≤ e .kind) × (e .kind ≤ 9)
   known =
-      let range = both (leb 1 (e .kind)) (leb (e .kind) 9) (both (stands 0 (e .map)) (leb 1 (e .kind) && leb (e .kind) 9) (taken e allowed .known) .1) in
+      let range = both (leb 1 (e .kind)) (leb (e .kind) 9) (both (stands 0 (e .map)) (leb 1 (e .kind) && leb (e .kind) 9) (taken SingleLine e allowed .known) .1) in
       (leb-true 1 (e .kind) (range .0), leb-true (e .kind) 9 (range .1))
 
   few : Few (e .asked) (e .granted)
   few =
-      let r = taken e allowed .ranges in
+      let r = taken SingleLine e allowed .ranges in
       omega (arith, at-most (stands 5 (e .map)) 1 8 (e .asked) (r .asked), at-most (stands 6 (e .map)) 1 8 (e .granted) (r .granted))
 
   -- OPEN has a class and asks: bits 4 and 5 of its map stand
   opens : e .kind ≡ 2 → Carried 1 5 1 (e .class) (e .asked) 0
   unfolding mapFits
   opens is =
-      let r = taken e allowed .ranges in
-      let fits : mapFits 2 (e .map) ≡ true = rw is at (taken e allowed .fits) in
-      let bit = bit-fits (rowOf 2) (e .map) (0 ∷ 1 ∷ 2 ∷ 3 ∷ 4 ∷ 5 ∷ 6 ∷ 7 ∷ []) in
+      let r = taken SingleLine e allowed .ranges in
+      let fits : mapFits SingleLine 2 (e .map) ≡ true = rw is at (taken SingleLine e allowed .fits) in
+      let bit = bit-fits (rowOf SingleLine 2) (e .map) (0 ∷ 1 ∷ 2 ∷ 3 ∷ 4 ∷ 5 ∷ 6 ∷ 7 ∷ []) in
       let class = between (stands 4 (e .map)) 1 5 (e .class) (bit 4 fits refl) (rw is at (r .class)) in
       let asked = between (stands 5 (e .map)) 1 8 (e .asked) (bit 5 fits refl) (r .asked) in
       omega arith
@@ -121,15 +122,15 @@ module _ (e : Entry) (allowed : judge e ≡ Allowed) where
   -- ---- whose it is
 
   -- bit 1, the station's, stands where the kind has it
-  bit : (kind : ℕ) → e .kind ≡ kind → bitFits (rowOf kind) (e .map) 1 ≡ true
+  bit : (kind : ℕ) → e .kind ≡ kind → bitFits (rowOf SingleLine kind) (e .map) 1 ≡ true
   unfolding mapFits
-  bit kind is = bit-fits (rowOf kind) (e .map) (0 ∷ 1 ∷ 2 ∷ 3 ∷ 4 ∷ 5 ∷ 6 ∷ 7 ∷ []) 1 (rw is at (taken e allowed .fits)) refl
+  bit kind is = bit-fits (rowOf SingleLine kind) (e .map) (0 ∷ 1 ∷ 2 ∷ 3 ∷ 4 ∷ 5 ∷ 6 ∷ 7 ∷ []) 1 (rw is at (taken SingleLine e allowed .fits)) refl
 
   no-station : not (stands 1 (e .map)) ≡ true → Placed (e .kind) (e .station) NoStation
-  no-station absent = nowhere (eqb-true (e .station) 0 (rw (not-true (stands 1 (e .map)) absent) at (taken e allowed .ranges .station)))
+  no-station absent = nowhere (eqb-true (e .station) 0 (rw (not-true (stands 1 (e .map)) absent) at (taken SingleLine e allowed .ranges .station)))
 
   its-station : (e .kind ≡ 7 → ⊥) → stands 1 (e .map) ≡ true → Placed (e .kind) (e .station) (Of (stationOf (e .station)))
-  its-station no-meet there = own (stationOf (e .station)) (by (between (stands 1 (e .map)) 1 2 (e .station) there (taken e allowed .ranges .station)) (eqb (e .station) 1) refl) no-meet
+  its-station no-meet there = own (stationOf (e .station)) (by (between (stands 1 (e .map)) 1 2 (e .station) there (taken SingleLine e allowed .ranges .station)) (eqb (e .station) 1) refl) no-meet
     where
       by : (1 ≤ e .station) × (e .station ≤ 2) → (b : Bool) → eqb (e .station) 1 ≡ b → e .station ≡ numberAt (cond b A B)
       by range true is = eqb-true (e .station) 1 is
@@ -159,14 +160,14 @@ module _ (e : Entry) (allowed : judge e ≡ Allowed) where
 pub ranged-of : (bytes : List ℕ) (event : Event) → decode bytes ≡ Says event → Ranged event
 unfolding decode
 ranged-of bytes event =
-    read-by (λ read. decodedAs read ≡ Says event → Ranged event) (λ h. absurd (bad-says h)) (λ why next h. absurd (bad-says h))
+    read-by SingleLine (λ read. decodedAs read ≡ Says event → Ranged event) (λ h. absurd (bad-says h)) (λ why next h. absurd (bad-says h))
     (λ e next allowed h. let same : eventOf e ≡ event = cc in rw same at (ranged e allowed))
     bytes 0
 
 -- the kind of the entry at a position of a log, and whose it is
-pub kind-at : (log : List ℕ) (at : ℕ) → kindRead (readAt log at) ≤ 9
-kind-at = read-by (λ read. kindRead read ≤ 9) (omega arith) (λ why next. omega arith) (λ e next allowed. known e allowed .1)
+pub kind-at : (log : List ℕ) (at : ℕ) → kindRead (readAt SingleLine log at) ≤ 9
+kind-at = read-by SingleLine (λ read. kindRead read ≤ 9) (omega arith) (λ why next. omega arith) (λ e next allowed. known e allowed .1)
 
-pub placed-at : (log : List ℕ) (at : ℕ) → Placed (kindRead (readAt log at)) (stationRead (readAt log at)) (whoseIs (decodedAs (readAt log at)))
+pub placed-at : (log : List ℕ) (at : ℕ) → Placed (kindRead (readAt SingleLine log at)) (stationRead (readAt SingleLine log at)) (whoseIs (decodedAs (readAt SingleLine log at)))
 placed-at =
-    read-by (λ read. Placed (kindRead read) (stationRead read) (whoseIs (decodedAs read))) (nowhere refl) (λ why next. nowhere refl) (λ e next allowed. placed e allowed)
+    read-by SingleLine (λ read. Placed (kindRead read) (stationRead read) (whoseIs (decodedAs read))) (nowhere refl) (λ why next. nowhere refl) (λ e next allowed. placed e allowed)

@@ -7,6 +7,7 @@ use Rattle.working.specs.Refusals.{Test}
 use Rattle.working.specs.Sections.{unused}
 use Rattle.working.specs.WellMade.{isOpener}
 use Rattle.working.specs.declared.Desk.{Desk}
+use Rattle.working.specs.declared.Interval.{Interval}
 use Rattle.working.specs.declared.Station.{Station}
 use Rattle.working.specs.declared.Vehicle.{Vehicle}
 use borrow.Author.Tests.{leb-false, lt-ltb, ltb-false, not-false}
@@ -45,23 +46,24 @@ train-passes d granted (holds, (grant, end)) =
     let while-owing = or-right (ltb (d .clears .asked) granted) (ltb 0 granted && ltb 0 (d .clears .owes)) grant in
     record { holds = some-test _ holds; free = λ some. no-test _ (rw (lt-ltb 0 granted some) at while-owing) }
 
-pub record LastPasses (d : Desk) : Type 0 where
-  pub room : d .sent < 12
-  pub unused : d .last < 9999
+pub record LastPasses (counted last : ℕ) : Type 0 where
+  pub room : counted < 12
+  pub unused : last < 9999
 
-pub last-passes : (d : Desk) (t : ℕ) → NoneHolds (lastTests d t) → LastPasses d
-last-passes d t n = omega (arith, leb-false)
+pub last-passes : (counted last : ℕ) (i : Interval) (t : ℕ) → NoneHolds (lastTests counted last i t) → LastPasses counted last
+last-passes counted last i t n = omega (arith, leb-false)
 
 -- a departure's tests, of which those in the middle are its kind's own
 pub record DepartPasses (force : Bool) (d : Desk) (kind : List Test) : Type 0 where
   pub begun : force ≡ true
   pub own : NoneHolds kind
-  pub last : LastPasses d
+  pub last : LastPasses (d .sent) (d .last)
 
 pub depart-passes : (force : Bool) (d : Desk) (t : ℕ) (own : List Test) → NoneHolds (departTests force d t own) → DepartPasses force d own
 depart-passes force d t own n =
-    let (first, later) = none-of-both (stationTests force d t) (own ++ lastTests d t) n in
-    let last = none-of-both own (lastTests d t) later in
+    let tests = lastTests (d .sent) (d .last) (d .interval) t in
+    let (first, later) = none-of-both (stationTests force (d .clock) t) (own ++ tests) n in
+    let last = none-of-both own tests later in
     search (last-passes, not-false)
 
 pub record ReceivePasses (force : Bool) (x sender : Station) (form : ℕ) (v : Vehicle) : Type 0 where
@@ -70,9 +72,9 @@ pub record ReceivePasses (force : Bool) (x sender : Station) (form : ℕ) (v : V
   pub enters : mayEnter x v ≡ true
 
 pub receive-passes : (force : Bool) (d : Desk) (t : ℕ) (x sender : Station) (form : ℕ) (v : Vehicle)
-    → NoneHolds (stationTests force d t ++ receiveTests x sender form v) → ReceivePasses force x sender form v
+    → NoneHolds (stationTests force (d .clock) t ++ receiveTests x sender form v) → ReceivePasses force x sender form v
 receive-passes force d t x sender form v n =
-    let both = none-of-both (stationTests force d t) (receiveTests x sender form v) n in
+    let both = none-of-both (stationTests force (d .clock) t) (receiveTests x sender form v) n in
     search not-false
 
 -- ---- a MEET

@@ -3,20 +3,22 @@
 use Prim.Native.Nat.{ℕ}
 use Rattle.working.proofs.Computing.{reading-computes, step-computes, turns-compute}
 use Rattle.working.proofs.Edges.{after, begun, guest, holding}
-use Rattle.working.proofs.Literals.{begin, counts, meet, opens, opensAs, plain, receive, resume, returns, returnsAsking, train, vehicle}
+use Rattle.working.proofs.Literals.{begin, counts, meet, opens, opensAs, plain, receive, resume, returns, returnsAsking, through, train, vehicle}
 use Rattle.working.specs.Demand3.{vehicleAt}
 use Rattle.working.specs.Entries.{readAt, writtenAt}
 use Rattle.working.specs.Sections.{countRefusal, emptied, fresh, freshDesk, numberAt, padTo}
 use Rattle.working.specs.Steps.{stepOf}
-use Rattle.working.specs.Turns.{answersIn, turnsFrom, turnsOf}
-use Rattle.working.specs.declared.Answer.the-variants.{Refused}
+use Rattle.working.specs.Turns.{answersIn, single, turnsFrom, turnsOf}
+use Rattle.working.specs.declared.Answer.the-variants.{Accepted, Refused}
 use Rattle.working.specs.declared.Entry.{Entry}
 use Rattle.working.specs.declared.Movement.the-variants.{Open, Return}
 use Rattle.working.specs.declared.Read.the-variants as read
-use Rattle.working.specs.declared.Refusal.the-variants.{BufferTooShort, EndsInside, IllMade, UnknownKind, WrongMap}
+use Rattle.working.specs.declared.Refusal.the-variants.{BufferTooShort, EndsInside, IllMade, IntervalRunning, UnknownKind, WrongMap}
 use Rattle.working.specs.declared.Section.{Section}
+use Rattle.working.specs.declared.Speed.the-variants.{Kmh}
 use Rattle.working.specs.declared.Station.the-variants.{A, B}
 use Rattle.working.specs.declared.Station.{Station}
+use Rattle.working.specs.declared.Table.the-variants.{SingleLine}
 use Rattle.working.specs.declared.Whose.the-variants.{NoStation}
 use Rattle.working.specs.declared.Written.the-variants as written
 use mathlib.Core.Bool.{false, true}
@@ -57,6 +59,12 @@ beginning = record { map = 1; kind = 1; station = 0; time = 0; view = 0; class =
 refusal-counts : stepOf begun begin .section ≡ countRefusal NoStation begun
 unfolding step-computes
 refusal-counts = refl
+
+-- "19 interval running, under 30 minutes": at the clock's end too, 15 minutes after a departure at 65,520; and 30 minutes after one at 65,505 it has run
+interval-at-clock-end : (stepOf (after begun (through 1 255 240 ∷ [])) (through 1 255 255) .answer ≡ Refused IntervalRunning)
+    × (stepOf (after begun (through 1 255 225 ∷ [])) (through 1 255 255) .answer ≡ Accepted 2 1 (Kmh 15))
+unfolding step-computes
+interval-at-clock-end = (refl, refl)
 
 -- "Each stops at its own largest value.": from 4,294,967,294 to 4,294,967,295, and it stays there
 count-stops : (after (refusing 4294967294 5 7) (opening A ∷ []) ≡ refusing 4294967295 5 7)
@@ -134,16 +142,16 @@ both-redirected A = (refl, refl)
 both-redirected B = (refl, refl)
 
 -- "a log of no bytes has no entries"
-no-entries : turnsOf fresh [] ≡ []
+no-entries : turnsOf single fresh [] ≡ []
 unfolding turnsFrom
 no-entries = refl
 
 -- "after 2, 3 or 4 reading goes on behind the entry"; "1 .. reading stops"
-reading-goes-on : answersIn (turnsOf fresh (0 ∷ 3 ∷ 1 ∷ 1 ∷ 1 ∷ 1 ∷ 7 ∷ 7 ∷ [])) ≡ Refused UnknownKind ∷ Refused WrongMap ∷ plain ∷ Refused EndsInside ∷ []
+reading-goes-on : answersIn (turnsOf single fresh (0 ∷ 3 ∷ 1 ∷ 1 ∷ 1 ∷ 1 ∷ 7 ∷ 7 ∷ [])) ≡ Refused UnknownKind ∷ Refused WrongMap ∷ plain ∷ Refused EndsInside ∷ []
 unfolding turns-compute
 reading-goes-on = refl
 
 -- "A position past the end gives a reader 1 and a writer 23."
-past-the-end : (readAt (1 ∷ 1 ∷ []) 3 ≡ read.Refused EndsInside 3) × (writtenAt (1 ∷ 1 ∷ []) 3 beginning ≡ written.Refused BufferTooShort)
+past-the-end : (readAt SingleLine (1 ∷ 1 ∷ []) 3 ≡ read.Refused EndsInside 3) × (writtenAt SingleLine (1 ∷ 1 ∷ []) 3 beginning ≡ written.Refused BufferTooShort)
 unfolding reading-computes writtenAt
 past-the-end = (refl, refl)

@@ -4,7 +4,7 @@ use Prim.Native.Nat.{ℕ}
 use Rattle.working.proofs.Computing.{turns-compute}
 use Rattle.working.proofs.Literals.{counts}
 use Rattle.working.specs.Sections.{fresh}
-use Rattle.working.specs.Turns.{answersIn, sectionAfter, turnsOf}
+use Rattle.working.specs.Turns.{answersIn, sectionAfter, single, turnsOf}
 use Rattle.working.specs.declared.Answer.the-variants.{Accepted, Refused}
 use Rattle.working.specs.declared.Refusal.the-variants.{IntervalRunning}
 use Rattle.working.specs.declared.Section.{Section}
@@ -24,7 +24,7 @@ session =
     ∷ 0x0F ∷ 0x05 ∷ 0x01 ∷ 0x00 ∷ 0x7E ∷ 0x01
     ∷ []
 
-the-session : answersIn (turnsOf fresh session) ≡
+the-session : answersIn (turnsOf single fresh session) ≡
     Accepted 0 0 NoSpeed
     ∷ Accepted 1 7 (Kmh 15)
     ∷ Accepted 0 0 NoSpeed
@@ -38,7 +38,7 @@ unfolding turns-compute
 the-session = refl
 
 last : Section
-last = sectionAfter fresh (turnsOf fresh session)
+last = sectionAfter fresh (turnsOf single fresh session)
 
 the-end : (last .refused ≡ counts 1 0 0) × (last .len ≡ 2) × (last .a .clears .holds ≡ 0) × (last .a .clears .owes ≡ 0) × (last .b .clears .holds ≡ 0) × (last .b .clears .owes ≡ 2)
 unfolding last turns-compute

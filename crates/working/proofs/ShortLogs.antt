@@ -3,7 +3,7 @@
 use Prim.Native.Nat.{ℕ}
 use Rattle.working.proofs.Computing.{turns-compute}
 use Rattle.working.specs.Sections.{fresh}
-use Rattle.working.specs.Turns.{answersIn, turnsOf}
+use Rattle.working.specs.Turns.{answersIn, single, turnsOf}
 use Rattle.working.specs.declared.Answer.the-variants.{Accepted, Refused}
 use Rattle.working.specs.declared.Refusal.the-variants.{AlreadyInForce, BeforeClock, EndsInside, GrantNotAllowed, GuestHere, HoldsLineClear, IntervalRunning, MayNotEnter, MayNotMeet, NoGuest, NoLineClear, NotInForce, NotNearest, OpenerAway, OutOfRange, OwesLineClear, UnknownKind, VehiclePresent, WrongMap}
 use Rattle.working.specs.declared.Speed.the-variants.{Booked, Kmh, NoSpeed, Walking}
@@ -22,7 +22,7 @@ log-0 =
     ∷ 2 ∷ 135 ∷ 6 ∷ 2 ∷ 0 ∷ 114 ∷ 2 ∷ 0 ∷ 7 ∷ 63 ∷ 2 ∷ 2 ∷ 0 ∷ 120 ∷ 2 ∷ 2 ∷ 8
     ∷ []
 
-answers-0 : answersIn (turnsOf fresh log-0) ≡
+answers-0 : answersIn (turnsOf single fresh log-0) ≡
     Accepted 0 0 NoSpeed ∷ Accepted 1 7 Walking ∷ Accepted 1 1 (Kmh 10) ∷ Accepted 0 0 NoSpeed ∷ Accepted 2 1 (Kmh 15)
     ∷ Refused NotNearest ∷ Refused UnknownKind ∷ Refused BeforeClock ∷ Accepted 0 0 NoSpeed ∷ Accepted 0 0 NoSpeed
     ∷ Refused NoLineClear ∷ Accepted 3 182 Booked ∷ Accepted 0 0 NoSpeed ∷ Accepted 2 172 Booked ∷ Accepted 0 0 NoSpeed
@@ -45,7 +45,7 @@ log-2 =
     ∷ 1 ∷ 135 ∷ 6 ∷ 1 ∷ 0 ∷ 106 ∷ 1 ∷ 0 ∷ 5 ∷ 131 ∷ 7 ∷ 1 ∷ 2 ∷ 0 ∷ 1
     ∷ []
 
-answers-2 : answersIn (turnsOf fresh log-2) ≡
+answers-2 : answersIn (turnsOf single fresh log-2) ≡
     Accepted 0 0 NoSpeed ∷ Accepted 1 1 Walking ∷ Accepted 2 7 (Kmh 10) ∷ Accepted 1 1 (Kmh 10) ∷ Accepted 2 1 (Kmh 10)
     ∷ Accepted 3 1 (Kmh 15) ∷ Accepted 4 1 (Kmh 10) ∷ Accepted 5 1 (Kmh 15) ∷ Accepted 0 0 NoSpeed ∷ Accepted 6 7 Walking
     ∷ Accepted 0 0 NoSpeed ∷ Accepted 0 0 NoSpeed ∷ Accepted 3 1 Walking ∷ Accepted 4 1 (Kmh 10) ∷ Accepted 5 7 (Kmh 15)
@@ -67,7 +67,7 @@ log-18 =
     ∷ 135 ∷ 6 ∷ 2 ∷ 0 ∷ 13 ∷ 1 ∷ 0 ∷ 1 ∷ 47 ∷ 5 ∷ 2 ∷ 0 ∷ 13 ∷ 2 ∷ 8 ∷ 15 ∷ 5 ∷ 2 ∷ 0 ∷ 43 ∷ 2
     ∷ []
 
-answers-18 : answersIn (turnsOf fresh log-18) ≡
+answers-18 : answersIn (turnsOf single fresh log-18) ≡
     Refused NotInForce ∷ Refused NotInForce ∷ Refused NotInForce ∷ Refused NotInForce ∷ Refused NotInForce
     ∷ Refused WrongMap ∷ Accepted 0 0 NoSpeed ∷ Accepted 1 7 (Kmh 15) ∷ Accepted 0 0 NoSpeed ∷ Accepted 1 182 Booked
     ∷ Accepted 0 0 NoSpeed ∷ Accepted 2 174 Booked ∷ Refused UnknownKind ∷ Accepted 0 0 NoSpeed ∷ Accepted 0 0 NoSpeed
@@ -90,7 +90,7 @@ log-53 =
     ∷ 215 ∷ 1 ∷ 1 ∷ 1
     ∷ []
 
-answers-53 : answersIn (turnsOf fresh log-53) ≡
+answers-53 : answersIn (turnsOf single fresh log-53) ≡
     Refused UnknownKind ∷ Refused NotInForce ∷ Refused NotInForce ∷ Accepted 0 0 NoSpeed ∷ Accepted 1 7 (Kmh 10)
     ∷ Accepted 0 0 NoSpeed ∷ Refused GuestHere ∷ Accepted 1 182 Booked ∷ Refused UnknownKind ∷ Accepted 0 0 NoSpeed
     ∷ Accepted 2 172 Booked ∷ Refused VehiclePresent ∷ Accepted 0 0 NoSpeed ∷ Refused UnknownKind ∷ Accepted 2 176 Booked
@@ -113,7 +113,7 @@ log-173 =
     ∷ 2 ∷ 2 ∷ 0 ∷ 50 ∷ 3 ∷ 4 ∷ 4 ∷ 131 ∷ 7 ∷ 2 ∷ 1 ∷ 0 ∷ 4
     ∷ []
 
-answers-173 : answersIn (turnsOf fresh log-173) ≡
+answers-173 : answersIn (turnsOf single fresh log-173) ≡
     Refused NotInForce ∷ Accepted 0 0 NoSpeed ∷ Accepted 1 7 Walking ∷ Accepted 0 0 NoSpeed ∷ Accepted 1 174 Booked
     ∷ Accepted 0 0 NoSpeed ∷ Accepted 2 180 Booked ∷ Accepted 0 0 NoSpeed ∷ Accepted 3 112 (Kmh 10) ∷ Accepted 0 0 NoSpeed
     ∷ Refused AlreadyInForce ∷ Refused BeforeClock ∷ Accepted 2 168 Booked ∷ Refused MayNotMeet ∷ Refused MayNotEnter

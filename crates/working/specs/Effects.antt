@@ -10,7 +10,7 @@ use Rattle.working.specs.declared.Interval.the-variants.{Since, Stopped}
 use Rattle.working.specs.declared.Movement.the-variants.{LastTrain, Open, Return, Through, Train}
 use Rattle.working.specs.declared.Movement.{Movement}
 use Rattle.working.specs.declared.Refusal.{Refusal}
-use Rattle.working.specs.declared.Speed.the-variants.{Booked, Kmh, NoSpeed, Walking}
+use Rattle.working.specs.declared.Speed.the-variants.{Booked, Both, Kmh, NoSpeed, Walking}
 use Rattle.working.specs.declared.Speed.{Speed}
 use Rattle.working.specs.declared.Station.the-variants.{A, B}
 use Rattle.working.specs.declared.Station.{Station}
@@ -45,6 +45,7 @@ isSlow NoSpeed = false
 isSlow Walking = true
 isSlow (Kmh k) = eqb k 15 || eqb k 10
 isSlow Booked = false
+isSlow (Both straight elsewhere) = false  -- no order with T/B 602 has two figures
 
 -- ---- forms, a sum
 

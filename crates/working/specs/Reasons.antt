@@ -35,11 +35,11 @@ abbrev pub isUnder : Interval → ℕ → Bool
 isUnder Stopped time = false
 isUnder (Since minute) time = ltb time (minute + 30)
 
--- every act of a station is put to these first
-abbrev pub stationTests : Bool → Desk → ℕ → List Test
-stationTests force d time =
+-- every act of a station, whose clock is this, is put to these first
+abbrev pub stationTests : Bool → ℕ → ℕ → List Test
+stationTests force clock time =
     (not force, NotInForce)  -- 7
-    ∷ (ltb time (d .clock), BeforeClock)  -- 9
+    ∷ (ltb time clock, BeforeClock)  -- 9
     ∷ []
 
 -- OPEN and THROUGH
@@ -65,17 +65,17 @@ trainTests d granted =
     ∷ (ltb (d .clears .asked) granted || (ltb 0 granted && ltb 0 (d .clears .owes)), GrantNotAllowed)  -- 16
     ∷ []
 
--- every departure is put to these last
-abbrev pub lastTests : Desk → ℕ → List Test
-lastTests d time =
-    (leb 12 (d .sent), TwelveSent)  -- 17
-    ∷ (leb 9999 (d .last), FormsUsed)  -- 18
-    ∷ (isUnder (d .interval) time, IntervalRunning)  -- 19
+-- every departure is put to these last, by how many count, the last form number and the interval
+abbrev pub lastTests : ℕ → ℕ → Interval → ℕ → List Test
+lastTests counted last interval time =
+    (leb 12 counted, TwelveSent)  -- 17
+    ∷ (leb 9999 last, FormsUsed)  -- 18
+    ∷ (isUnder interval time, IntervalRunning)  -- 19
     ∷ []
 
 -- a departure's tests: those of its kind between the two that all have
 abbrev pub departTests : Bool → Desk → ℕ → List Test → List Test
-departTests force d time own = stationTests force d time ++ (own ++ lastTests d time)
+departTests force d time own = stationTests force (d .clock) time ++ (own ++ lastTests (d .sent) (d .last) (d .interval) time)
 
 -- ---- those on the line
 
@@ -103,7 +103,7 @@ testsOf (acts.Through view) x force d time v = departTests force d time (openTes
 testsOf (acts.Return asked granted) x force d time v = departTests force d time (returnTests d granted)
 -- T-03: "Kind 9, .. has the map and the refusals of TRAIN"
 testsOf (acts.Train endorsed view asked granted) x force d time v = departTests force d time (trainTests d granted)
-testsOf (acts.Receive sender form) x force d time v = stationTests force d time ++ receiveTests x sender form v
+testsOf (acts.Receive sender form) x force d time v = stationTests force (d .clock) time ++ receiveTests x sender form v
 
 -- the place of the vehicle named, or how many there are where it is not present
 abbrev pub findOf : Station → ℕ → List Vehicle → ℕ

@@ -32,11 +32,14 @@ otherAt B = A
 abbrev pub unused : Vehicle
 unused = record { movement = Open 0; sender = 0; form = 0; heading = 0; met = false; class = 0 }
 
--- the first n of l, and unused places where l has fewer
-unfoldable pub padTo : ℕ → List Vehicle → List Vehicle
-padTo zero l = []
-padTo (suc n) [] = unused ∷ padTo n []
-padTo (suc n) (v ∷ l) = v ∷ padTo n l
+-- the first n of l, and places with `blank` where l has fewer
+unfoldable pub padWith : {T : Type 0} → T → ℕ → List T → List T
+padWith blank zero l = []
+padWith blank (suc n) [] = blank ∷ padWith blank n []
+padWith blank (suc n) (v ∷ l) = v ∷ padWith blank n l
+
+abbrev pub padTo : ℕ → List Vehicle → List Vehicle
+padTo n l = padWith unused n l
 
 -- "up to 24 vehicles in order from A to B": the vehicles present, and the section with others in their place
 abbrev pub vehiclesOf : Section → List Vehicle

@@ -9,7 +9,7 @@ count-refusal-requires : tie.Need-count-refusal-requires
 count-refusal-requires c κs = search needs
 
 returns : tie.Need-returns
-returns c = record { answer = refl; words = c .count-refusal .ensures }
+returns c = record { answer = refl; words = c .count-refusal .ensures .0; ring = c .count-refusal .ensures .1 }
 
 pub refuse-spec : {M : Type 1} → statement M
 refuse-spec = tie.close (tie.spec count-refusal-requires returns)

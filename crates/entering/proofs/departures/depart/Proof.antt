@@ -8,7 +8,7 @@ use borrow.Author.Needs.{needs}
 returns : tie.Need-returns
 returns c =
     let inserted = c .before .before in
-    leaves (inserted .before .before .vehicle-for .ensures) (inserted .insert .ensures) (c .put-departure .ensures)
+    leaves (inserted .before .before .vehicle-for .ensures) (inserted .insert .ensures) (c .put-departure .ensures .0)
 
 pub depart-spec : {M : Type 1} → statement M
 depart-spec = tie.close (tie.spec (λ c κs. search needs) (λ c κs. search needs) (λ c κs. search needs) returns)

@@ -24,9 +24,14 @@ returns-4 c =
     let letter = c .before .before in
     (rw (letter .before .before .before .enum-told3 .given .1) (letter .put-bytes3 .ensures), search needs)
 
+returns-5 : tie.Need-returns-5
+returns-5 c =
+    let both = c .before .before in
+    (rw (both .before .before .before .speed2 .given .1) (both .put-both .ensures .0), search needs)
+
 pub put-speed-spec : {M : Type 1} → statement M
 put-speed-spec =
     tie.close
     (tie.spec (λ c. search needs) (λ c. search needs) (λ c κs. search needs) (λ c. search needs) (λ c. search needs) (λ c κs. search needs) (λ c. search needs)
-    (λ c. search needs) (λ c κs. search needs) (λ c. search needs) (λ c. search needs) (λ c κs. search needs) (λ c. search needs) returns (λ c. search needs)
-    returns-2 (λ c. search needs) returns-3 (λ c. search needs) returns-4)
+    (λ c. search needs) (λ c κs. search needs) (λ c. search needs) (λ c. search needs) (λ c κs. search needs) (λ c. search needs) (λ c κs. search needs)
+    (λ c. search needs) returns (λ c. search needs) returns-2 (λ c. search needs) returns-3 (λ c. search needs) returns-4 (λ c. search needs) returns-5)

@@ -2,7 +2,7 @@
 -- Assumes nothing.
 use Prim.Native.Nat.{_+_, _-_}
 use Rattle.section.proofs.Passes.{Up, at-end}
-use Rattle.words.proofs.DeskWords.{Same, desk-back, desk-becomes, figure-next, figures-all, interval-back, put-as, put-next}
+use Rattle.words.proofs.DeskWords.{Same, desk-back, desk-becomes, figure-next, figures-all, interval-back, put-as, put-next, ring-kept}
 use Rattle.words.proofs.Packing.{one-back}
 use Rattle.words.proofs.Written.{words-count}
 use Rattle.words.proofs.desks.put_desk.Statement.{statement}
@@ -50,8 +50,8 @@ returns c =
     let less = start .figures .ensures .1 in
     let same : Same (deskWords (deskRead (deskWords d))) (deskWords d) =
     omega (arith, first .good, ap oneIf (one-back (d .out)), ap intervalNumber (interval-back (d .interval) less)) in
-    desk-becomes (λ z. d) (put-as (λ u. f) (at-end (c .before .loop .inv) (omega arith)) (figures-all f t deskLength (omega arith) (omega arith)))
-    (rw (start .figures .ensures .0) (desk-back d less same)) (λ z. start .figures .ensures .0)
+    let all = put-as (λ u. f) (at-end (c .before .loop .inv) (omega arith)) (figures-all f t deskLength (omega arith) (omega arith)) in
+    (desk-becomes (λ z. d) all (rw (start .figures .ensures .0) (desk-back d less same)) (λ z. start .figures .ensures .0), ring-kept all)
 
 pub put-desk-spec : {M : Type 1} → statement M
 put-desk-spec = tie.close (tie.spec Inv-loop μ-loop (λ c κs. search needs) loop-holds

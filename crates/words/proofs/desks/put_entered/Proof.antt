@@ -1,7 +1,7 @@
 -- `desks::put_entered` meets its contract: four words of the desk, each in range of its type.
 -- Assumes nothing.
 use Prim.Native.Nat.{_%_}
-use Rattle.words.proofs.DeskWords.{desk-becomes, interval-back, put-next}
+use Rattle.words.proofs.DeskWords.{desk-becomes, interval-back, put-next, ring-kept}
 use Rattle.words.proofs.desks.put_entered.Statement.{statement}
 use Rattle.words.proofs.desks.put_entered.Tie as tie
 use Rattle.working.specs.Sections.{withEntered}
@@ -21,9 +21,11 @@ returns c =
     let clock : a .clock % 65536 ≡ a .clock = mod-eq-of-lt (omega arith) in
     let last : a .last % 65536 ≡ a .last = mod-eq-of-lt (omega arith) in
     let sent : a .sent % 256 ≡ a .sent = mod-eq-of-lt (omega arith) in
-    desk-becomes (withEntered (a .clock) (a .last) (a .sent) (a .interval))
-    (put-next (put-next (put-next (first .put .ensures) (second .put2 .ensures)) (third .put3 .ensures)) (c .put4 .ensures))
-    (rw (clock, last, sent, since .0, interval-back (a .interval) (omega arith))) (λ d. rw (since .0))
+    let all = put-next (put-next (put-next (first .put .ensures) (second .put2 .ensures)) (third .put3 .ensures)) (c .put4 .ensures) in (
+      desk-becomes (withEntered (a .clock) (a .last) (a .sent) (a .interval)) all
+          (rw (clock, last, sent, since .0, interval-back (a .interval) (omega arith))) (λ d. rw (since .0)),
+      ring-kept all,
+    )
 
 pub put-entered-spec : {M : Type 1} → statement M
 put-entered-spec =

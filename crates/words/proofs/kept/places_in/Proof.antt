@@ -7,7 +7,7 @@ use Rattle.words.proofs.VehiclesIn.{places-of}
 use Rattle.words.proofs.kept.places_in.Statement.{statement}
 use Rattle.words.proofs.kept.places_in.Tie as tie
 use Rattle.words.specs.Words.{sectionIn}
-use Rattle.working.specs.Sections.{vehiclesOf, padTo}
+use Rattle.working.specs.Sections.{padTo, padWith, vehiclesOf}
 use borrow.Author.Needs.{needs}
 use lib.ListN.{set, take}
 use lib.Seq.{take-all}
@@ -21,7 +21,7 @@ abbrev μ-loop : tie.MeasureT-loop
 μ-loop words present places₀ i₀ places i = present - i
 
 loop-holds : tie.Need-loop-holds Inv-loop μ-loop
-unfolding padTo
+unfolding padWith
 loop-holds c = record { within = omega arith; so-far = rw (c .unused .ensures) }
 
 loop-again : tie.Need-loop-again Inv-loop μ-loop

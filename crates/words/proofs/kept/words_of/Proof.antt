@@ -11,7 +11,7 @@ returns c =
     let first = c .before .before in
     let begun = first .before .before in
     let s = begun .before .before .before .before .before .args .s in
-    own-desk B (s .b) (own-desk A (s .a) (begun .present-words .ensures) (first .put-desk .ensures)) (c .put-desk2 .ensures)
+    own-desk B (s .b) (own-desk A (s .a) (begun .present-words .ensures) (first .put-desk .ensures .0)) (c .put-desk2 .ensures .0)
 
 pub words-of-spec : {M : Type 1} → statement M
 words-of-spec =

@@ -5,9 +5,7 @@ use Rattle.words.proofs.ring.empty.Tie as tie
 use borrow.Author.Needs.{needs}
 
 returns : tie.Need-returns
-returns c =
-    let own = rw (c .before .refused .ensures) at (c .emptied-words .ensures) in
-    record { section = own .section; start = own .start; own = λ few e. own .words }
+returns c = rw (c .before .refused .ensures) at (c .emptied-words .ensures)
 
 pub empty-spec : {M : Type 1} → statement M
 empty-spec = tie.close (tie.spec (λ c κs. search needs) (λ c κs. search needs) returns)

@@ -1,7 +1,7 @@
--- `step::fields::station_of` meets its contract.
+-- `stations::station_of` meets its contract: the test of the number is the definition's.
 -- Assumes nothing.
-use Rattle.entering.proofs.fields.station_of.Statement.{statement}
-use Rattle.entering.proofs.fields.station_of.Tie as tie
+use Rattle.section.proofs.stations.station_of.Statement.{statement}
+use Rattle.section.proofs.stations.station_of.Tie as tie
 use borrow.Author.Tests.{eq-eqb, ne-eqb}
 
 returns : tie.Need-returns

@@ -1,0 +1,5 @@
+pub mod InOrder
+pub mod Runs
+pub mod Sections
+pub mod Steps
+pub mod WellMade

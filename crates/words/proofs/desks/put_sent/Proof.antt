@@ -1,0 +1,20 @@
+-- `desks::put_sent` meets its contract: one word of the desk, in range of its type.
+-- Assumes nothing.
+use Prim.Native.Nat.{_%_}
+use Rattle.words.proofs.DeskWords.{desk-becomes, ring-kept}
+use Rattle.words.proofs.desks.put_sent.Statement.{statement}
+use Rattle.words.proofs.desks.put_sent.Tie as tie
+use Rattle.words.specs.Words.{withSent}
+use borrow.Author.Needs.{needs}
+use mathlib.Core.Path.{_≡_, refl}
+use native.Mathlib.Nat.{mod-eq-of-lt}
+use native.Mathlib.Omega.{arith}
+
+returns : tie.Need-returns
+returns c =
+    let a = c .before .before .args in
+    let sent : a .sent % 256 ≡ a .sent = mod-eq-of-lt (omega arith) in
+    (desk-becomes (withSent (a .sent)) (c .put .ensures) (rw sent) (λ d. refl), ring-kept (c .put .ensures))
+
+pub put-sent-spec : {M : Type 1} → statement M
+put-sent-spec = tie.close (tie.spec (λ c κs. search needs) returns)

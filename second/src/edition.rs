@@ -4,8 +4,7 @@
 //! before, and T-03 leaves that promise as it is. To hold the step to it, document
 //! 01's own step is kept beside today's. Only tests and walks use it.
 
-use crate::entry::{bit, decode, Entry, Kind};
-use crate::refusal::Refusal;
+use crate::entry::Table;
 use crate::section::{Desk, Vehicle};
 
 /// By which document a step answers.
@@ -21,15 +20,13 @@ pub enum Edition {
 }
 
 impl Edition {
-    /// Reads the entry at the start of `bytes`. To document 01 kind 9 is none, so a
-    /// whole entry of that kind is 2, whatever else is right or wrong with it.
-    pub(crate) fn read(self, bytes: &[u8]) -> Result<Entry, Refusal> {
-        let read = decode(bytes);
-        let cut = read == Err(Refusal::Cut);
-        if self == Edition::Document01 && !cut && shows_a_last_train(bytes) {
-            return Err(Refusal::NoKind);
+    /// The table by which entries are read. To document 01 kind 9 is none, so a whole
+    /// entry of that kind is 2, whatever else is right or wrong with it.
+    pub(crate) fn table(self) -> &'static Table {
+        match self {
+            Edition::Document01 => &Table::DOCUMENT_01,
+            Edition::Today => &Table::SINGLE_LINE,
         }
-        read
     }
 
     /// Whether a TRAIN that leaves this desk may carry a grant, however small.
@@ -63,15 +60,11 @@ impl Edition {
     }
 }
 
-/// Whether the kind is 9, whether or not the rest is an entry.
-fn shows_a_last_train(bytes: &[u8]) -> bool {
-    let last_train = Kind::LastTrain.number();
-    matches!(bytes, &[map, kind, ..] if map & bit::KIND != 0 && kind == last_train)
-}
-
 #[cfg(test)]
 mod tests {
     use super::*;
+    use crate::entry::Kind;
+    use crate::refusal::Refusal;
 
     /// Holds, owes and waiting after line clears were taken.
     fn taken(edition: Edition, kind: Kind, granted: u8, before: [u8; 3]) -> [u8; 3] {
@@ -95,7 +88,8 @@ mod tests {
     fn document_01_has_no_kind_9_whatever_else_stands_in_a_whole_entry() {
         let both = |bytes: &[u8]| {
             [Edition::Document01, Edition::Today]
-                .map(|edition| edition.read(bytes).map_or_else(Refusal::number, |_| 0))
+                .map(|edition| edition.table().decode(bytes))
+                .map(|read| read.map_or_else(Refusal::number, |_| 0))
         };
         // Right, with another map, with a field out of its range.
         assert_eq!(both(&[0x0F, 9, 1, 0, 0, 1]), [2, 0]);

@@ -17,7 +17,7 @@ const DESK_LENGTH: usize = 14;
 
 /// The bytes of the counts of refused entries: for A (4), for B (4), of no
 /// station (4).
-const REFUSED_LENGTH: usize = 12;
+pub(crate) const REFUSED_LENGTH: usize = 12;
 
 /// The bytes of a section: its places, the vehicles present, in force, the
 /// counts of refused entries, and the desks of A and B.
@@ -59,7 +59,7 @@ impl Section {
     /// The section with these figures; none where no section has them.
     #[must_use]
     pub fn from_figures(figures: &Figures) -> Option<Section> {
-        let mut rest = Rest(figures);
+        let mut rest = Rest::of(figures);
         let section = Section {
             places: std::array::from_fn(|_| rest.place()),
             present: rest.byte().into(),
@@ -108,23 +108,29 @@ fn is_zero_but_for_its_kind(vehicle: &Vehicle) -> bool {
         }
 }
 
-fn refused_figures(refused: &Refused) -> impl Iterator<Item = u8> {
+pub(crate) fn refused_figures(refused: &Refused) -> impl Iterator<Item = u8> {
     [refused.for_a, refused.for_b, refused.of_none]
         .into_iter()
         .flat_map(u32::to_be_bytes)
 }
 
+/// Whether it runs, and its minute; 0 where it does not run.
+pub(crate) fn interval_figures(interval: Option<u16>) -> [u8; 3] {
+    let [minute_high, minute_low] = interval.unwrap_or(0).to_be_bytes();
+    [interval.is_some().into(), minute_high, minute_low]
+}
+
 fn desk_figures(desk: &Desk) -> [u8; DESK_LENGTH] {
     let [clock_high, clock_low] = desk.clock.to_be_bytes();
     let [form_high, form_low] = desk.last_form.to_be_bytes();
-    let [minute_high, minute_low] = desk.interval.unwrap_or(0).to_be_bytes();
+    let [runs, minute_high, minute_low] = interval_figures(desk.interval);
     [
         clock_high,
         clock_low,
         form_high,
         form_low,
         desk.sent,
-        desk.interval.is_some().into(),
+        runs,
         minute_high,
         minute_low,
         desk.out.into(),
@@ -137,7 +143,14 @@ fn desk_figures(desk: &Desk) -> [u8; DESK_LENGTH] {
 }
 
 /// The figures that are still to be read.
-struct Rest<'a>(&'a [u8]);
+pub(crate) struct Rest<'a>(&'a [u8]);
+
+impl<'a> Rest<'a> {
+    /// All of these.
+    pub(crate) fn of(figures: &'a [u8]) -> Rest<'a> {
+        Rest(figures)
+    }
+}
 
 impl Rest<'_> {
     // The order of the fields is the order in which they are read, so they
@@ -159,7 +172,7 @@ impl Rest<'_> {
         }
     }
 
-    fn refused(&mut self) -> Refused {
+    pub(crate) fn refused(&mut self) -> Refused {
         Refused {
             for_a: self.count(),
             for_b: self.count(),
@@ -182,21 +195,21 @@ impl Rest<'_> {
         }
     }
 
-    fn interval(&mut self) -> Option<u16> {
+    pub(crate) fn interval(&mut self) -> Option<u16> {
         let runs = self.flag();
         let minute = self.pair();
         runs.then_some(minute)
     }
 
-    fn flag(&mut self) -> bool {
+    pub(crate) fn flag(&mut self) -> bool {
         self.byte() == 1
     }
 
-    fn byte(&mut self) -> u8 {
+    pub(crate) fn byte(&mut self) -> u8 {
         self.next::<1>()[0]
     }
 
-    fn pair(&mut self) -> u16 {
+    pub(crate) fn pair(&mut self) -> u16 {
         u16::from_be_bytes(self.next())
     }
 

@@ -8,10 +8,14 @@
 //! entry.
 
 use crate::edition::Edition;
-use crate::entry::{bit, encode, entry_length, laid_out, Entry, Kind, LONGEST_ENTRY};
+use crate::entry::{bit, Entry, Kind, Table};
+use crate::making::{
+    any_bytes, bytes_by, departure_time, extend_log, just_before_interval_ends, later_than,
+    neighbouring_form, pick_by_weight, with_a_bad_field, with_another_map, Maker,
+};
 use crate::random::Random;
 use crate::section::{Desk, Refused, Section, Station, Vehicle};
-use crate::step::{step_by, Answer};
+use crate::step::step_by;
 
 /// How a log is to be made.
 #[derive(Clone, Copy, Debug, Default, PartialEq, Eq)]
@@ -38,22 +42,7 @@ pub fn log(seed: u64, entries: usize, options: Options) -> Vec<u8> {
     if options.worn {
         generator.wear_out_forms(&mut log);
     }
-    let limit = options.bytes.unwrap_or(usize::MAX);
-    for left in (0..entries).rev() {
-        if log.len() >= limit {
-            break;
-        }
-        let next = if left == 0 && generator.ends_cut() {
-            generator.cut_entry()
-        } else {
-            generator.next_entry()
-        };
-        if options.accepted && log.len() + next.len() > limit {
-            break;
-        }
-        log.extend(next);
-    }
-    log.truncate(limit);
+    extend_log(&mut log, &mut generator, entries, options.bytes);
     log
 }
 
@@ -109,79 +98,17 @@ impl Generator {
 
     /// The bytes of one more entry of a log, whole though perhaps refused.
     pub fn next_entry(&mut self) -> Vec<u8> {
-        let bytes = self.whole_bytes();
-        // Whether it is accepted is for those to see who read the log.
-        let _ = self.step(&bytes);
-        bytes
+        self.make_entry()
     }
 
     /// The bytes of one more step of a list, in which, other than in a log,
     /// cut bytes may stand anywhere.
     pub fn next_step(&mut self) -> Vec<u8> {
-        if self.options.accepted || !self.random.chance(1) {
-            return self.next_entry();
-        }
-        let bytes = if self.random.chance(30) {
-            Vec::new()
-        } else {
-            self.cut_entry()
-        };
-        let _ = self.step(&bytes);
-        bytes
-    }
-
-    fn step(&mut self, bytes: &[u8]) -> Answer {
-        step_by(self.options.edition, &mut self.section, bytes)
+        self.make_step()
     }
 
     fn desk(&self, station: Station) -> Desk {
         *self.section.desk(station)
-    }
-
-    fn whole_bytes(&mut self) -> Vec<u8> {
-        if self.options.accepted {
-            return bytes_of(&self.likely_entry());
-        }
-        // Not in force only BEGIN is likely, and the next entry would nearly
-        // always be one: refusal 7 would hardly be seen.
-        if !self.section.in_force && self.random.chance(50) {
-            return bytes_of(&self.blind_entry());
-        }
-        match self.random.below(100) {
-            0..=4 => self.no_entry(),
-            5..=12 => bytes_of(&self.spoiled_entry()),
-            13..=19 => bytes_of(&self.blind_entry()),
-            _ => bytes_of(&self.likely_entry()),
-        }
-    }
-
-    fn ends_cut(&mut self) -> bool {
-        !self.options.accepted && self.random.chance(50)
-    }
-
-    /// The first bytes of an entry, at least one of them and never all; mostly
-    /// as many as show its station.
-    fn cut_entry(&mut self) -> Vec<u8> {
-        let mut bytes = bytes_of(&self.blind_entry());
-        let most = bytes.len() as u16 - 1;
-        let least = if self.random.chance(70) { 3 } else { 1 };
-        let kept = self.random.between(most.min(least), most);
-        bytes.truncate(kept.into());
-        bytes
-    }
-
-    /// An entry that the section accepts, chosen by the mood of the traffic.
-    fn likely_entry(&mut self) -> Entry {
-        self.change_mood();
-        let mut candidates = Vec::with_capacity(2 * Kind::ALL.len());
-        for kind in Kind::ALL {
-            for station in Station::BOTH {
-                candidates.extend(self.candidate(kind, station));
-            }
-        }
-        candidates.retain(|(entry, _)| self.is_accepted(entry));
-        self.pick_by_weight(&candidates)
-            .unwrap_or_else(|| self.blind_entry())
     }
 
     fn change_mood(&mut self) {
@@ -247,22 +174,6 @@ impl Generator {
         step_by(self.options.edition, &mut section, &bytes_of(entry)).is_ok()
     }
 
-    /// One of the candidates; where the mood wants none of them, any.
-    fn pick_by_weight(&mut self, candidates: &[(Entry, u32)]) -> Option<Entry> {
-        let total = candidates.iter().map(|(_, weight)| weight).sum();
-        let mut drawn = self.random.below(total);
-        for &(entry, weight) in candidates {
-            if drawn < weight {
-                return Some(entry);
-            }
-            drawn -= weight;
-        }
-        if candidates.is_empty() {
-            return None;
-        }
-        Some(self.random.pick(candidates).0)
-    }
-
     /// The receipt of the vehicle nearest this station.
     fn receipt(&mut self, station: Station) -> Option<Entry> {
         let nearest = *self.section.nearest(station)?;
@@ -309,24 +220,12 @@ impl Generator {
         }
     }
 
-    /// As soon as the clock and the interval let a vehicle go, or later.
     fn departure_time(&mut self, desk: &Desk) -> u16 {
-        let interval_over = desk
-            .interval
-            .map_or(0, |started| started.saturating_add(Section::INTERVAL));
-        self.later_than(desk.clock.max(interval_over))
+        departure_time(&mut self.random, desk.clock, desk.interval)
     }
 
     fn later_than(&mut self, earliest: u16) -> u16 {
-        let delay = match self.random.below(3_000) {
-            0..=1_799 => 0,
-            1_800..=2_969 => self.random.between(1, 9),
-            2_970..=2_997 => self.random.between(10, 400),
-            2_998 => self.random.between(0, u16::MAX),
-            // The clock's last minute, after which nothing follows.
-            _ => u16::MAX,
-        };
-        earliest.saturating_add(delay)
+        later_than(&mut self.random, earliest)
     }
 
     fn some_trains(&mut self) -> u8 {
@@ -365,7 +264,112 @@ impl Generator {
         self.reply(desk.asked)
     }
 
-    /// A likely entry with one figure altered to its edge or beyond it.
+    /// A guest is soon sent back, so what a master may not do while one stands
+    /// at his station has to be tried at once.
+    fn hurried_departure(&mut self) -> Option<Entry> {
+        let station = Station::BOTH
+            .into_iter()
+            .find(|&station| self.desk(station).guest > 0)?;
+        if self.random.chance(30) {
+            return None;
+        }
+        let kinds = [Kind::Open, Kind::Through, Kind::Train, Kind::LastTrain];
+        let kind = self.random.pick(&kinds);
+        Some(self.departure(kind, station))
+    }
+
+    /// Deep states would be lost too often if every blind RESUME that finds
+    /// the section empty were let through.
+    fn may_end(&mut self) -> bool {
+        self.section.present > 0 || (!self.options.worn && self.random.chance(10))
+    }
+
+    /// Mostly the name of a vehicle present.
+    fn some_name(&mut self) -> (Station, u16) {
+        let vehicles = self.section.vehicles();
+        if !vehicles.is_empty() && self.random.chance(80) {
+            let named = self.random.pick(vehicles);
+            if let Some(sender) = Station::from_number(named.sender) {
+                return (sender, named.form);
+            }
+        }
+        let sender = self.random.pick(&Station::BOTH);
+        let last = self.section.desk(sender).last_form;
+        let form = self.random.between(1, last.max(1));
+        (sender, form)
+    }
+
+    fn with_another_kind(&mut self) -> Vec<u8> {
+        let mut bytes = bytes_of(&self.blind_entry());
+        let other_kind = self.random.byte();
+        bytes[1] = self.random.pick(&[0, 10, u8::MAX, other_kind]);
+        bytes
+    }
+
+    fn with_another_map(&mut self) -> Vec<u8> {
+        let bytes = bytes_of(&self.blind_entry());
+        with_another_map(&mut self.random, bytes)
+    }
+
+    fn with_a_bad_field(&mut self) -> Vec<u8> {
+        let entry = self.blind_entry();
+        with_a_bad_field(&mut self.random, entry).unwrap_or_else(|| self.with_another_kind())
+    }
+
+    /// Sends one opener out and takes it back until few form numbers are left.
+    fn wear_out_forms(&mut self, log: &mut Vec<u8>) {
+        let station = self.random.pick(&Station::BOTH);
+        let last = Section::LAST_FORM - self.random.between(0, 6);
+        self.enter(log, &Entry::begin());
+        for form in 1..=last {
+            let view = self.random.small(1, 3);
+            let class = self.random.small(1, 5);
+            let asked = self.some_trains();
+            self.enter(log, &Entry::open(station, 0, view, class, asked));
+            self.enter(log, &Entry::receive(station, 0, station, form));
+        }
+    }
+
+    fn enter(&mut self, log: &mut Vec<u8>, entry: &Entry) {
+        let bytes = bytes_of(entry);
+        let answer = step_by(self.options.edition, &mut self.section, &bytes);
+        debug_assert!(answer.is_ok(), "{entry:?}: {answer:?}");
+        log.extend(bytes);
+    }
+}
+
+impl Maker for Generator {
+    const TABLE: &'static Table = &Table::SINGLE_LINE;
+
+    fn random(&mut self) -> &mut Random {
+        &mut self.random
+    }
+
+    fn accepted_only(&self) -> bool {
+        self.options.accepted
+    }
+
+    fn in_force(&self) -> bool {
+        self.section.in_force
+    }
+
+    fn step(&mut self, bytes: &[u8]) {
+        let _ = step_by(self.options.edition, &mut self.section, bytes);
+    }
+
+    /// An entry that the section accepts, chosen by the mood of the traffic.
+    fn likely_entry(&mut self) -> Entry {
+        self.change_mood();
+        let mut candidates = Vec::with_capacity(2 * Kind::ALL.len());
+        for kind in Kind::ALL {
+            for station in Station::BOTH {
+                candidates.extend(self.candidate(kind, station));
+            }
+        }
+        candidates.retain(|(entry, _)| self.is_accepted(entry));
+        pick_by_weight(&mut self.random, &candidates).unwrap_or_else(|| self.blind_entry())
+    }
+
     fn spoiled_entry(&mut self) -> Entry {
         let entry = self.likely_entry();
         let Some(station) = Station::from_number(entry.station) else {
@@ -379,7 +383,7 @@ impl Generator {
         if entry.map & bit::TIME != 0 {
             for time in [
                 desk.clock.saturating_sub(1),
-                just_before_interval_ends(&desk),
+                just_before_interval_ends(desk.clock, desk.interval),
             ] {
                 spoiled.push(Entry { time, ..entry });
             }
@@ -398,21 +402,12 @@ impl Generator {
             }
         }
         if entry.map & bit::FORM != 0 {
-            let form = self.neighbouring_form(entry.form);
+            let form = neighbouring_form(&mut self.random, entry.form);
             spoiled.push(Entry { form, ..entry });
             let sender = 3 - entry.sender;
             spoiled.push(Entry { sender, ..entry });
         }
         self.random.pick(&spoiled)
-    }
-
-    fn neighbouring_form(&mut self, form: u16) -> u16 {
-        let neighbour = if self.random.chance(50) {
-            form + 1
-        } else {
-            form - 1
-        };
-        neighbour.clamp(1, Section::LAST_FORM)
     }
 
     /// An entry with every field in its range, at a time not long after the
@@ -451,134 +446,14 @@ impl Generator {
         }
     }
 
-    /// A guest is soon sent back, so what a master may not do while one stands
-    /// at his station has to be tried at once.
-    fn hurried_departure(&mut self) -> Option<Entry> {
-        let station = Station::BOTH
-            .into_iter()
-            .find(|&station| self.desk(station).guest > 0)?;
-        if self.random.chance(30) {
-            return None;
-        }
-        let kinds = [Kind::Open, Kind::Through, Kind::Train, Kind::LastTrain];
-        let kind = self.random.pick(&kinds);
-        Some(self.departure(kind, station))
-    }
-
-    /// Deep states would be lost too often if every blind RESUME that finds
-    /// the section empty were let through.
-    fn may_end(&mut self) -> bool {
-        self.section.present > 0 || (!self.options.worn && self.random.chance(10))
-    }
-
-    /// Mostly the name of a vehicle present.
-    fn some_name(&mut self) -> (Station, u16) {
-        let vehicles = self.section.vehicles();
-        if !vehicles.is_empty() && self.random.chance(80) {
-            let named = self.random.pick(vehicles);
-            if let Some(sender) = Station::from_number(named.sender) {
-                return (sender, named.form);
-            }
-        }
-        let sender = self.random.pick(&Station::BOTH);
-        let last = self.section.desk(sender).last_form;
-        let form = self.random.between(1, last.max(1));
-        (sender, form)
-    }
-
-    /// Bytes as long as their map says that are no entry.
     fn no_entry(&mut self) -> Vec<u8> {
         match self.random.below(6) {
             0 => vec![0],
-            1 => self.any_bytes(),
+            1 => any_bytes(&mut self.random),
             2 => self.with_another_kind(),
             3 => self.with_another_map(),
             _ => self.with_a_bad_field(),
         }
-    }
-
-    fn any_bytes(&mut self) -> Vec<u8> {
-        let map = self.random.byte();
-        let mut bytes = vec![map];
-        bytes.resize_with(entry_length(map), || self.random.byte());
-        bytes
-    }
-
-    fn with_another_kind(&mut self) -> Vec<u8> {
-        let mut bytes = bytes_of(&self.blind_entry());
-        let other_kind = self.random.byte();
-        bytes[1] = self.random.pick(&[0, 10, u8::MAX, other_kind]);
-        bytes
-    }
-
-    /// One bit of the map too many or too few, the fields following the map.
-    fn with_another_map(&mut self) -> Vec<u8> {
-        let mut bytes = bytes_of(&self.blind_entry());
-        bytes[0] ^= 1 << self.random.below(8);
-        let length = entry_length(bytes[0]);
-        bytes.resize_with(length, || self.random.small(0, 8));
-        bytes
-    }
-
-    /// One field just outside its range, or far outside.
-    fn with_a_bad_field(&mut self) -> Vec<u8> {
-        let mut entry = self.blind_entry();
-        // A kind out of its range is 2, and no time is out of its range.
-        let present: Vec<u32> = [1, 3, 4, 5, 6, 7]
-            .into_iter()
-            .filter(|place| entry.map & (1 << place) != 0)
-            .collect();
-        if present.is_empty() {
-            return self.with_another_kind();
-        }
-        let far = self.random.small(10, u8::MAX);
-        let mut outside = |last: u8| self.random.pick(&[0, 0, last + 1, last + 1, far]);
-        let wrong = Entry {
-            station: outside(2),
-            view: outside(3),
-            class: outside(if entry.kind == Kind::Through.number() {
-                1
-            } else {
-                5
-            }),
-            asked: outside(Section::MOST_CLEARS),
-            granted: outside(Section::MOST_CLEARS),
-            sender: outside(2),
-            ..entry
-        };
-        let form = self.random.between(Section::LAST_FORM + 1, u16::MAX);
-        let wrong_form = self.random.pick(&[0, Section::LAST_FORM + 1, form]);
-        match self.random.pick(&present) {
-            1 => entry.station = wrong.station,
-            3 => entry.view = wrong.view,
-            4 => entry.class = wrong.class,
-            5 => entry.asked = wrong.asked,
-            6 => entry.granted = wrong.granted,
-            _ if self.random.chance(50) => entry.sender = wrong.sender,
-            _ => entry.form = wrong_form,
-        }
-        laid_out(&entry)[..entry_length(entry.map)].to_vec()
-    }
-
-    /// Sends one opener out and takes it back until few form numbers are left.
-    fn wear_out_forms(&mut self, log: &mut Vec<u8>) {
-        let station = self.random.pick(&Station::BOTH);
-        let last = Section::LAST_FORM - self.random.between(0, 6);
-        self.enter(log, &Entry::begin());
-        for form in 1..=last {
-            let view = self.random.small(1, 3);
-            let class = self.random.small(1, 5);
-            let asked = self.some_trains();
-            self.enter(log, &Entry::open(station, 0, view, class, asked));
-            self.enter(log, &Entry::receive(station, 0, station, form));
-        }
-    }
-
-    fn enter(&mut self, log: &mut Vec<u8>, entry: &Entry) {
-        let bytes = bytes_of(entry);
-        let answer = self.step(&bytes);
-        debug_assert!(answer.is_ok(), "{entry:?}: {answer:?}");
-        log.extend(bytes);
     }
 }
 
@@ -592,21 +467,12 @@ fn train_of(kind: Kind, station: Station, time: u16, view: u8, asked: u8, grante
 
 /// Whether the map of the kind with this number may have granted.
 fn kind_may_grant(number: u8) -> bool {
-    Kind::from_number(number).is_some_and(|kind| kind.may() & bit::GRANTED != 0)
-}
-
-fn just_before_interval_ends(desk: &Desk) -> u16 {
-    desk.interval.map_or(desk.clock, |started| {
-        started.saturating_add(Section::INTERVAL - 1)
-    })
+    Kind::from_number(number).is_some_and(|kind| Table::SINGLE_LINE.may(kind) & bit::GRANTED != 0)
 }
 
 /// The bytes of an entry; of one that may not be written, none.
 pub(crate) fn bytes_of(entry: &Entry) -> Vec<u8> {
-    let mut buffer = [0; LONGEST_ENTRY];
-    let length = encode(entry, &mut buffer).unwrap_or(0);
-    debug_assert!(length > 0, "{entry:?}");
-    buffer[..length].to_vec()
+    bytes_by(&Table::SINGLE_LINE, entry)
 }
 
 /// Any well-made section, whether or not a log leads to it.
@@ -631,7 +497,7 @@ pub fn any_section(random: &mut Random) -> Section {
 }
 
 /// Each by itself, so that one is often at its largest value and another not.
-fn any_counts(random: &mut Random) -> Refused {
+pub(crate) fn any_counts(random: &mut Random) -> Refused {
     let mut count = || random.pick(&[0, 1, u32::MAX - 1, u32::MAX]);
     Refused {
         for_a: count(),

@@ -1,9 +1,11 @@
-//! Two stations and the single line section between them, worked under total
-//! failure of communication: a second reading of the document and of requests
-//! T-01, T-02 and T-03, written from them alone, so that the first can be
-//! compared with it.
+//! Two stations and the section between them, worked under total failure of
+//! communication: a second reading of the document and of requests T-01, T-02,
+//! T-03 and T-05, written from them alone, so that the first can be compared with
+//! it. What stands here is the single line; [`double`] has the double line, with
+//! the same names.
 //!
-//! * [`decode`] and [`encode`] turn bytes into an [`Entry`] and back,
+//! * [`decode`] and [`encode`] turn bytes into an [`Entry`] and back; a [`Table`]
+//!   does so for either line,
 //! * [`Section`] is all that is held, and [`Section::is_well_made`] tests it,
 //! * [`step()`] and [`step_in_place`] answer one entry, and [`refused_for`] says
 //!   whose a refused one is,
@@ -15,22 +17,26 @@
 //! * [`cases`] are stored for another program, with what must come of each.
 
 pub mod cases;
+pub mod double;
 pub mod edition;
 pub mod entry;
 pub mod figures;
 pub mod generator;
 pub mod lister;
 pub mod log;
+mod making;
 pub mod random;
 pub mod refusal;
 pub mod section;
 pub mod step;
 pub mod walk;
+pub mod working;
 
 pub use edition::Edition;
-pub use entry::{decode, encode, entry_length, Entry, Kind};
+pub use entry::{decode, encode, entry_length, Entry, Kind, Table};
 pub use lister::{list, LONGEST_LOG};
 pub use log::{Line, Reader, Run, Writer};
 pub use refusal::Refusal;
 pub use section::{Desk, Refused, Section, Station, Vehicle};
 pub use step::{refused_for, step, step_by, step_in_place, Accepted, Answer, Speed};
+pub use working::Working;

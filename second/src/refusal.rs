@@ -8,7 +8,7 @@ use std::fmt;
 pub enum Refusal {
     /// The bytes end inside an entry, or there are none.
     Cut = 1,
-    /// The map has no kind, or the kind is not 1 to 9.
+    /// The map has no kind, or the kind is none of the line's.
     NoKind = 2,
     /// The map is not one of the kind's maps.
     MapNotOfKind = 3,
@@ -20,7 +20,7 @@ pub enum Refusal {
     InForce = 6,
     /// Any other kind while the working is not in force.
     NotInForce = 7,
-    /// RESUME with a vehicle in the section.
+    /// RESUME with a vehicle in the section, or on either line of a double line.
     VehicleInSection = 8,
     /// The time is before the station's clock.
     TimeBeforeClock = 9,
@@ -38,13 +38,14 @@ pub enum Refusal {
     NoLineClear = 15,
     /// More granted than was asked, or a grant on a TRAIN while its station owes.
     GrantNotDue = 16,
-    /// Twelve departures are counted already.
+    /// Twelve departures are counted already; on a double line, twelve are on it.
     TwelveSent = 17,
     /// The last form number is used.
     FormsUsedUp = 18,
     /// The running interval has not passed.
     IntervalRunning = 19,
-    /// The vehicle named is not the one nearest the station.
+    /// The vehicle named is not the one nearest the station; on a double line, not
+    /// the first still on the other's line.
     NotNearest = 20,
     /// The vehicle may not enter this station.
     MayNotEnter = 21,

@@ -1,6 +1,7 @@
 //! The section: two desks and the vehicles between them.
 
 use crate::entry::Kind;
+use crate::working::{forms_and_interval_fit, Working};
 
 /// One of the two stations. A to B is UP.
 #[derive(Clone, Copy, Debug, PartialEq, Eq, Hash)]
@@ -52,7 +53,7 @@ impl Station {
         }
     }
 
-    const fn place(self) -> usize {
+    pub(crate) const fn place(self) -> usize {
         match self {
             Station::A => 0,
             Station::B => 1,
@@ -88,14 +89,13 @@ pub struct Desk {
 
 impl Desk {
     fn is_well_made(&self) -> bool {
-        self.last_form <= Section::LAST_FORM
+        forms_and_interval_fit(self.clock, self.last_form, self.interval)
             && self.sent <= Section::MOST_SENT
             && self.guest <= Section::MOST_CLASSES
             && self.asked <= Section::MOST_CLEARS
             && self.holds <= Section::MOST_CLEARS
             && self.owes <= Section::MOST_CLEARS
             && self.waiting <= Section::MOST_CLEARS
-            && self.interval.is_none_or(|started| started <= self.clock)
     }
 }
 
@@ -323,14 +323,6 @@ impl Section {
             && Station::BOTH
                 .iter()
                 .all(|&sender| self.departures_are_counted(sender) && self.forms_fit(sender))
-    }
-
-    fn is_fresh_but_for_the_counts(&self) -> bool {
-        *self
-            == Section {
-                refused: self.refused,
-                ..Section::fresh()
-            }
     }
 
     /// A number of vehicles over 24 leaves no unused places to look at and is

@@ -23,20 +23,21 @@
 use std::fmt;
 
 use crate::edition::Edition;
-use crate::entry::{decode, Entry, Kind};
+use crate::entry::{Entry, Kind, Table};
 use crate::generator::{Generator, Options};
 use crate::random::Random;
 use crate::section::{Desk, Refused, Section, Station, Vehicle};
-use crate::step::{form, refused_for, step, step_by, step_in_place, Accepted, Answer, Speed};
+use crate::step::{form, refused_for, step_by, Accepted, Answer, Speed};
+use crate::working::Working;
 
 /// The longest list of a walk. Each swap reruns what is left of its list, so
 /// the time for a list grows with the square of its length.
 const LONGEST_LIST: u16 = 400;
 
 /// A way to step a section in its owner's memory.
-pub trait Stepper: Fn(&mut Section, &[u8]) -> Answer {}
+pub trait Stepper<S = Section>: Fn(&mut S, &[u8]) -> Answer {}
 
-impl<T: Fn(&mut Section, &[u8]) -> Answer> Stepper for T {}
+impl<S, T: Fn(&mut S, &[u8]) -> Answer> Stepper<S> for T {}
 
 /// One step of a list: what it was handed and what it answered.
 #[derive(Clone, Debug)]
@@ -47,10 +48,16 @@ pub struct Step {
 }
 
 impl Step {
-    /// Records a step.
+    /// Records a step on the single line.
     #[must_use]
     pub fn new(bytes: Vec<u8>, answer: Answer) -> Step {
-        let entry = decode(&bytes).ok();
+        Step::by(&Table::SINGLE_LINE, bytes, answer)
+    }
+
+    /// Records a step whose bytes are read by this table.
+    #[must_use]
+    pub fn by(table: &Table, bytes: Vec<u8>, answer: Answer) -> Step {
+        let entry = table.decode(&bytes).ok();
         Step {
             bytes,
             entry,
@@ -59,7 +66,7 @@ impl Step {
     }
 
     /// The entry, its kind and its answer, where it was accepted.
-    fn accepted(&self) -> Option<(Kind, &Entry, &Accepted)> {
+    pub(crate) fn accepted(&self) -> Option<(Kind, &Entry, &Accepted)> {
         let entry = self.entry.as_ref()?;
         let kind = Kind::from_number(entry.kind)?;
         Some((kind, entry, self.answer.as_ref().ok()?))
@@ -159,8 +166,7 @@ pub fn walk_with(stepper: &impl Stepper, seed: u64, steps: u64) -> Result<Tally,
     let mut tally = Tally::default();
     let mut as_before = Ok(());
     while tally.states < steps {
-        let left = u16::try_from(steps - tally.states).unwrap_or(u16::MAX);
-        let length = random.between(1, LONGEST_LIST).min(left);
+        let length = any_length(&mut random, steps - tally.states);
         let mut generator = Generator::new(random.word(), any_options(&mut random));
         let (list, sections) = walk_list(stepper, &mut generator, length, &mut tally)?;
         swap_neighbours(stepper, &list, &sections, &mut tally)?;
@@ -169,6 +175,12 @@ pub fn walk_with(stepper: &impl Stepper, seed: u64, steps: u64) -> Result<Tally,
         tally.lists += 1;
     }
     as_before.map(|()| tally)
+}
+
+/// How long the next list is, where so many steps are left to walk.
+pub(crate) fn any_length(random: &mut Random, left: u64) -> u16 {
+    let left = u16::try_from(left).unwrap_or(u16::MAX);
+    random.between(1, LONGEST_LIST).min(left)
 }
 
 fn compare(list: &[Step], sections: &[Section], tally: &mut Tally) -> Result<(), Failure> {
@@ -195,9 +207,9 @@ fn any_options(random: &mut Random) -> Options {
 }
 
 /// Both forms of the step, which have to agree.
-fn step_in_both_forms(section: &mut Section, bytes: &[u8]) -> Answer {
-    let (answer, after) = step(section, bytes);
-    let in_place = step_in_place(section, bytes);
+pub(crate) fn step_in_both_forms<S: Working>(section: &mut S, bytes: &[u8]) -> Answer {
+    let (answer, after) = section.step(bytes);
+    let in_place = section.step_in_place(bytes);
     assert_eq!(answer, in_place, "the two forms answer differently");
     assert_eq!(&after, section, "the two forms leave different sections");
     in_place
@@ -240,7 +252,7 @@ fn check_state(list: &[Step], section: &Section, tally: &mut Tally) -> Result<()
     Ok(())
 }
 
-fn fail<T>(list: &[Step], section: &Section, claim: &str) -> Result<T, Failure> {
+pub(crate) fn fail<T>(list: &[Step], section: &impl Working, claim: &str) -> Result<T, Failure> {
     let mut log = String::new();
     for step in list {
         log.extend(step.bytes.iter().map(|byte| format!("{byte:02X}")));
@@ -368,13 +380,14 @@ pub fn check_owed(list: &[Step], section: &Section) -> Result<usize, Failure> {
 /// # Errors
 ///
 /// A count that is more or less than the refused steps that are its own.
-pub fn check_counts(list: &[Step], section: &Section) -> Result<(), Failure> {
+pub fn check_counts(list: &[Step], section: &impl Working) -> Result<(), Failure> {
     let mut refused = Refused::default();
     for step in list.iter().filter(|step| step.answer.is_err()) {
         refused.count(refused_for(step.entry.as_ref()));
     }
-    if section.refused != refused {
-        let claim = format!("counted {:?}, refused {refused:?}", section.refused);
+    let counted = section.refused();
+    if counted != refused {
+        let claim = format!("counted {counted:?}, refused {refused:?}");
         return fail(list, section, &claim);
     }
     Ok(())
@@ -481,6 +494,7 @@ mod tests {
     use super::*;
     use crate::entry::{encode, LONGEST_ENTRY};
     use crate::refusal::Refusal;
+    use crate::step::step_in_place;
 
     fn run(entries: &[Entry]) -> (Vec<Step>, Section) {
         let mut section = Section::fresh();

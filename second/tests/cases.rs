@@ -527,6 +527,56 @@ fn positions_by_hand() {
     assert_eq!(case.input(), [4, 1, 2, 0, 1, 7]);
 }
 
+/// What is an entry on one line is none on the other.
+#[test]
+fn the_double_line_reads_and_writes_by_its_own_table() {
+    let single_train = vec![0x0F, 5, 1, 0, 10, 1];
+    let double_train = vec![0x07, 5, 1, 0, 10];
+    let read = |log: &[u8]| {
+        let log = log.to_vec();
+        Case::DoubleRead { position: 0, log }.expected()
+    };
+    let entry = "read 0 5\nat 0 entry 7 5 1 10 0 0 0 0 0 0 next 5\n";
+    assert_eq!(read(&double_train), entry);
+    assert_eq!(read(&single_train), "read 0 6\nat 0 no 3 next 6\n");
+    let position = 0;
+    let log = double_train;
+    let single = Case::Read { position, log };
+    assert_eq!(single.expected(), "read 0 5\nat 0 no 3 next 5\n");
+    let write = |entry: Entry, fill: u16| Case::DoubleWrite {
+        entry,
+        fill,
+        buffer: vec![9; 6],
+    };
+    let train = Entry::double_line_train(Station::A, 10);
+    assert_eq!(
+        write(train, 1).expected(),
+        "write 1 6\nappend filled 6\nbuffer 09070501000a\n\
+         front filled 5\nbuffer 070501000a09\n"
+    );
+    assert_eq!(
+        write(Entry::last_train(Station::A, 10, 1, 0, 0), 7).expected(),
+        "write 7 6\nappend no 2\nbuffer 090909090909\nfront no 2\nbuffer 090909090909\n"
+    );
+    let input = [5, 7, 5, 1, 0, 10, 0, 0, 0, 0, 0, 0, 0, 0, 1, 0, 6];
+    assert_eq!(write(train, 1).input()[..17], input);
+    let read = Case::DoubleRead {
+        position: 258,
+        log: vec![7],
+    };
+    assert_eq!(read.input(), [6, 1, 2, 0, 1, 7]);
+}
+
+/// The double line's cases stand behind all others.
+#[test]
+fn the_double_line_comes_last() {
+    let is_double =
+        |case: &Case| matches!(case, Case::DoubleWrite { .. } | Case::DoubleRead { .. });
+    let first = CASES.iter().position(is_double).unwrap();
+    assert!(CASES[first..].iter().all(is_double));
+    assert!(CASES.len() - first > 120);
+}
+
 /// Reads the input as the other program has to.
 fn parsed(mut input: &[u8]) -> Vec<Case> {
     fn take<'a>(input: &mut &'a [u8], length: usize) -> &'a [u8] {
@@ -556,7 +606,7 @@ fn parsed(mut input: &[u8]) -> Vec<Case> {
                     bytes: bytes(&mut input),
                 }
             }
-            3 => {
+            number @ (3 | 5) => {
                 let &[map, kind, station, t1, t0, view, class, asked, granted, sender, f1, f0] =
                     take(&mut input, 12)
                 else {
@@ -575,13 +625,25 @@ fn parsed(mut input: &[u8]) -> Vec<Case> {
                     form: u16::from_be_bytes([f1, f0]),
                 };
                 let fill = pair(&mut input);
-                Case::Write {
-                    entry,
-                    fill,
-                    buffer: bytes(&mut input),
+                let buffer = bytes(&mut input);
+                match number {
+                    3 => Case::Write {
+                        entry,
+                        fill,
+                        buffer,
+                    },
+                    _ => Case::DoubleWrite {
+                        entry,
+                        fill,
+                        buffer,
+                    },
                 }
             }
             4 => Case::Read {
+                position: pair(&mut input),
+                log: bytes(&mut input),
+            },
+            6 => Case::DoubleRead {
                 position: pair(&mut input),
                 log: bytes(&mut input),
             },
@@ -699,19 +761,29 @@ fn a_step_refused_with_5_leaves_every_figure() {
 
 #[test]
 fn the_writer_has_2_3_4_and_23_and_success() {
-    let lines = lines_of(|case| matches!(case, Case::Write { .. }));
-    for word in ["append", "front"] {
-        assert_eq!(refusals(&lines, word), [2, 3, 4, 23].into());
-        assert!(lines
-            .iter()
-            .any(|line| line.starts_with(&format!("{word} filled "))));
+    for wanted in [
+        |case: &Case| matches!(case, Case::Write { .. }),
+        |case: &Case| matches!(case, Case::DoubleWrite { .. }),
+    ] {
+        let lines = lines_of(wanted);
+        for word in ["append", "front"] {
+            assert_eq!(refusals(&lines, word), [2, 3, 4, 23].into());
+            assert!(lines
+                .iter()
+                .any(|line| line.starts_with(&format!("{word} filled "))));
+        }
     }
     for case in CASES.iter() {
-        let Case::Write {
+        let (Case::Write {
             entry,
             fill,
             buffer,
-        } = case
+        }
+        | Case::DoubleWrite {
+            entry,
+            fill,
+            buffer,
+        }) = case
         else {
             continue;
         };
@@ -737,21 +809,31 @@ fn the_writer_has_2_3_4_and_23_and_success() {
     }
 }
 
-#[test]
-fn the_positions_have_every_outcome() {
-    let lines = lines_of(|case| matches!(case, Case::Read { .. }));
+/// What the readers of these cases have read, in short.
+fn outcomes(wanted: fn(&Case) -> bool) -> BTreeSet<String> {
     let mut outcomes = BTreeSet::new();
-    for line in lines.iter().filter(|line| line.starts_with("at ")) {
+    for line in lines_of(wanted)
+        .iter()
+        .filter(|line| line.starts_with("at "))
+    {
         let words: Vec<&str> = line.split(' ').collect();
         outcomes.insert(match words[2] {
             "no" => words[2..4].join(" "),
             word => word.to_owned(),
         });
     }
-    let expected = ["end", "entry", "no 1", "no 2", "no 3", "no 4"];
-    assert_eq!(outcomes, expected.map(str::to_owned).into());
+    outcomes
+}
+
+#[test]
+fn the_positions_have_every_outcome() {
+    let every = ["end", "entry", "no 1", "no 2", "no 3", "no 4"];
+    let every: BTreeSet<String> = every.map(str::to_owned).into();
+    assert_eq!(outcomes(|case| matches!(case, Case::Read { .. })), every);
+    let double = |case: &Case| matches!(case, Case::DoubleRead { .. });
+    assert_eq!(outcomes(double), every);
     for case in CASES.iter() {
-        if let Case::Read { position, log } = case {
+        if let Case::Read { position, log } | Case::DoubleRead { position, log } = case {
             if usize::from(*position) > log.len() {
                 let line = format!("at {position} no 1 next {position}\n");
                 assert!(case.expected().ends_with(&line));
@@ -797,6 +879,9 @@ fn a_bad_call_gives_one_line_of_usage() {
         let output = run_cases(arguments);
         assert_eq!(output.status.code(), Some(2), "{arguments:?}");
         assert_eq!(output.stdout, b"");
-        assert_eq!(output.stderr, b"usage: cases input|expected\n");
+        assert_eq!(
+            output.stderr,
+            b"usage: cases input|expected|doubleinput|doubleexpected\n"
+        );
     }
 }

@@ -541,13 +541,14 @@ fn the_program_writes_the_log_of_its_arguments() {
 
 #[test]
 fn a_bad_call_gives_one_line_of_usage() {
-    let bad_calls: [&[&str]; 6] = [
+    let bad_calls: [&[&str]; 7] = [
         &[],
         &["1"],
         &["one", "2"],
         &["1", "2", "3"],
         &["1", "2", "--bytes"],
         &["1", "-2"],
+        &["1", "2", "--double", "--worn"],
     ];
     for arguments in bad_calls {
         let output = run_gen(arguments);

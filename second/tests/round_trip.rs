@@ -1,11 +1,32 @@
-//! The writer and the reader against each other and against the table.
+//! The writer and the reader against each other and against the tables of both
+//! lines.
 
 use second::entry::{bit, LONGEST_ENTRY};
 use second::random::Random;
-use second::{decode, encode, entry_length, Entry, Reader, Refusal, Writer};
+use second::{entry_length, Entry, Reader, Refusal, Table, Writer};
 
-/// The table of maps as the document prints it: bits that must, bits that may.
-const TABLE: [(u8, &str, &str); 9] = [
+/// A line: the table by which its entries are read and written, and that table as
+/// the document prints it, by kind: bits that must, bits that may.
+struct Line {
+    table: &'static Table,
+    rows: &'static [(u8, &'static str, &'static str)],
+}
+
+const SINGLE: Line = Line {
+    table: &Table::SINGLE_LINE,
+    rows: &SINGLE_ROWS,
+};
+
+const DOUBLE: Line = Line {
+    table: &Table::DOUBLE_LINE,
+    rows: &DOUBLE_ROWS,
+};
+
+/// T-05: no view, asked or granted.
+const DOUBLE_ROWS: [(u8, &str, &str); 4] =
+    [(1, "0", ""), (5, "012", ""), (6, "0127", ""), (8, "0", "")];
+
+const SINGLE_ROWS: [(u8, &str, &str); 9] = [
     (1, "0", ""),
     (8, "0", ""),
     (2, "012345", ""),
@@ -18,8 +39,7 @@ const TABLE: [(u8, &str, &str); 9] = [
     (9, "0123", "56"),
 ];
 
-fn table_allows(kind: u8, map: u8) -> bool {
-    let (_, must, may) = TABLE.iter().find(|row| row.0 == kind).unwrap();
+fn row_allows((_, must, may): &(u8, &str, &str), map: u8) -> bool {
     (0..8).all(|place| {
         let digit = char::from(b'0' + place);
         let stands = map & (1 << place) != 0;
@@ -45,10 +65,12 @@ fn ranges_hold(entry: &Entry) -> bool {
 }
 
 /// What the document says about whole bytes with these fields.
-fn expected(entry: &Entry) -> Result<(), Refusal> {
-    if entry.map & bit::KIND == 0 || !(1..=9).contains(&entry.kind) {
-        Err(Refusal::NoKind)
-    } else if !table_allows(entry.kind, entry.map) {
+fn expected(line: &Line, entry: &Entry) -> Result<(), Refusal> {
+    let row = line.rows.iter().find(|row| row.0 == entry.kind);
+    let Some(row) = row.filter(|_| entry.map & bit::KIND != 0) else {
+        return Err(Refusal::NoKind);
+    };
+    if !row_allows(row, entry.map) {
         Err(Refusal::MapNotOfKind)
     } else if !ranges_hold(entry) {
         Err(Refusal::FieldOutOfRange)
@@ -97,14 +119,18 @@ fn without_absent_fields(mut entry: Entry) -> Entry {
     entry
 }
 
-fn round_trip(entry: &Entry) -> Result<(), Refusal> {
+fn round_trip(line: &Line, entry: &Entry) -> Result<(), Refusal> {
     let bytes = bytes_by_the_document(entry);
     assert_eq!(bytes.len(), entry_length(entry.map));
-    let wished = expected(entry);
+    let wished = expected(line, entry);
     let mut buffer = [0xEE; LONGEST_ENTRY];
-    let written = encode(entry, &mut buffer);
+    let written = line.table.encode(entry, &mut buffer);
     assert_eq!(written, wished.map(|()| bytes.len()), "{entry:?}");
-    assert_eq!(decode(&bytes), wished.map(|()| *entry), "{entry:?}");
+    assert_eq!(
+        line.table.decode(&bytes),
+        wished.map(|()| *entry),
+        "{entry:?}"
+    );
     let kept = match written {
         Ok(length) => {
             assert_eq!(buffer[..length], bytes);
@@ -133,21 +159,28 @@ fn any_entry(random: &mut Random, map: u8, kind: u8) -> Entry {
     })
 }
 
-#[test]
-fn every_map_and_kind_with_fields_in_range() {
+/// How many of the maps with each kind are taken.
+fn maps_taken(line: &Line) -> u32 {
     let mut random = Random::new(1);
     let mut accepted = 0;
     for map in 0..=u8::MAX {
         for kind in (0..=11).chain([255]) {
             for _ in 0..20 {
                 let entry = any_entry(&mut random, map, kind);
-                accepted += u32::from(round_trip(&entry).is_ok());
+                accepted += u32::from(round_trip(line, &entry).is_ok());
             }
         }
     }
+    accepted / 20
+}
+
+#[test]
+fn every_map_and_kind_with_fields_in_range() {
     // BEGIN, RESUME, OPEN, THROUGH, RECEIVE and MEET have one map, RETURN, TRAIN and
     // LAST TRAIN four each.
-    assert_eq!(accepted, 20 * 18);
+    assert_eq!(maps_taken(&SINGLE), 18);
+    // BEGIN, TRAIN, RECEIVE and RESUME have one map each.
+    assert_eq!(maps_taken(&DOUBLE), 4);
 }
 
 #[test]
@@ -172,7 +205,9 @@ fn every_map_and_kind_with_any_fields() {
                     sender,
                     form: random.pick(&[0, 1, 9_999, 10_000, u16::MAX]),
                 };
-                let _ = round_trip(&without_absent_fields(entry));
+                let entry = without_absent_fields(entry);
+                let _ = round_trip(&SINGLE, &entry);
+                let _ = round_trip(&DOUBLE, &entry);
             }
         }
     }
@@ -180,11 +215,17 @@ fn every_map_and_kind_with_any_fields() {
 
 #[test]
 fn one_field_at_a_time_over_all_its_values() {
+    for line in [&SINGLE, &DOUBLE] {
+        one_field_at_a_time(line);
+    }
+}
+
+fn one_field_at_a_time(line: &Line) {
     let mut random = Random::new(3);
-    for (kind, must, _) in TABLE {
+    for &(kind, must, may) in line.rows {
         let map: u8 = must.bytes().map(|digit| 1 << (digit - b'0')).sum();
-        let maps = match kind {
-            4 | 5 | 9 => vec![map, map | bit::ASKED, map | bit::GRANTED, map | 0x60],
+        let maps = match may {
+            "56" => vec![map, map | bit::ASKED, map | bit::GRANTED, map | 0x60],
             _ => vec![map],
         };
         for map in maps {
@@ -202,15 +243,15 @@ fn one_field_at_a_time_over_all_its_values() {
                 for alteration in alterations {
                     let mut entry = good;
                     alteration(&mut entry, byte);
-                    let _ = round_trip(&without_absent_fields(entry));
+                    let _ = round_trip(line, &without_absent_fields(entry));
                 }
             }
             for pair in 0..=u16::MAX {
                 let time = Entry { time: pair, ..good };
-                assert_eq!(round_trip(&without_absent_fields(time)), Ok(()));
+                assert_eq!(round_trip(line, &without_absent_fields(time)), Ok(()));
                 let form = without_absent_fields(Entry { form: pair, ..good });
                 let in_range = map & bit::FORM == 0 || (1..=9_999).contains(&pair);
-                assert_eq!(round_trip(&form).is_ok(), in_range);
+                assert_eq!(round_trip(line, &form).is_ok(), in_range);
             }
         }
     }
@@ -218,8 +259,14 @@ fn one_field_at_a_time_over_all_its_values() {
 
 #[test]
 fn the_writer_refuses_absent_fields_that_are_not_0() {
+    for line in [&SINGLE, &DOUBLE] {
+        refuse_absent_fields(line);
+    }
+}
+
+fn refuse_absent_fields(line: &Line) {
     let mut random = Random::new(4);
-    for (kind, must, _) in TABLE {
+    for &(kind, must, _) in line.rows {
         let map: u8 = must.bytes().map(|digit| 1 << (digit - b'0')).sum();
         let good = any_entry(&mut random, map, kind);
         let stray = [
@@ -234,7 +281,7 @@ fn the_writer_refuses_absent_fields_that_are_not_0() {
         ];
         for (bit, entry) in stray {
             let mut buffer = [0; LONGEST_ENTRY];
-            let written = encode(&entry, &mut buffer);
+            let written = line.table.encode(&entry, &mut buffer);
             if map & bit == 0 {
                 assert_eq!(written, Err(Refusal::FieldOutOfRange), "{entry:?}");
                 assert_eq!(buffer, [0; LONGEST_ENTRY]);
@@ -247,6 +294,13 @@ fn the_writer_refuses_absent_fields_that_are_not_0() {
 
 #[test]
 fn random_bytes_are_read_to_their_end() {
+    for line in [&SINGLE, &DOUBLE] {
+        read_random_bytes(line);
+    }
+}
+
+/// What is read is written again as the same bytes.
+fn read_random_bytes(line: &Line) {
     let mut random = Random::new(5);
     let mut read = 0;
     for _ in 0..20_000 {
@@ -255,7 +309,7 @@ fn random_bytes_are_read_to_their_end() {
         // Small bytes are entries more often.
         let most = random.pick(&[9, 63, u8::MAX]);
         log.resize_with(length, || random.small(0, most));
-        let mut reader = Reader::new(&log);
+        let mut reader = Reader::by(line.table, &log, 0);
         let mut position = 0;
         while let Some(outcome) = reader.read() {
             let whole = entry_length(log[position]);
@@ -269,7 +323,7 @@ fn random_bytes_are_read_to_their_end() {
                 Ok(entry) => {
                     read += 1;
                     let mut buffer = [0; LONGEST_ENTRY];
-                    assert_eq!(encode(&entry, &mut buffer), Ok(whole));
+                    assert_eq!(line.table.encode(&entry, &mut buffer), Ok(whole));
                     assert_eq!(buffer[..whole], log[position..position + whole]);
                 }
             }
@@ -282,12 +336,18 @@ fn random_bytes_are_read_to_their_end() {
 
 #[test]
 fn a_log_written_is_the_log_read() {
+    for line in [&SINGLE, &DOUBLE] {
+        write_and_read_a_log(line);
+    }
+}
+
+fn write_and_read_a_log(line: &Line) {
     let mut random = Random::new(6);
     let mut log = vec![0; 4_000];
-    let mut writer = Writer::at(&mut log, 0);
+    let mut writer = Writer::by(line.table, &mut log, 0);
     let mut entries = Vec::new();
     loop {
-        let (kind, must, _) = random.pick(&TABLE);
+        let (kind, must, _) = random.pick(line.rows);
         let map: u8 = must.bytes().map(|digit| 1 << (digit - b'0')).sum();
         let entry = any_entry(&mut random, map, kind);
         if writer.append(&entry) == Err(Refusal::BufferTooShort) {
@@ -296,7 +356,7 @@ fn a_log_written_is_the_log_read() {
         entries.push(entry);
     }
     let end = writer.position();
-    let mut reader = Reader::new(&log[..end]);
+    let mut reader = Reader::by(line.table, &log[..end], 0);
     for entry in entries {
         assert_eq!(reader.read(), Some(Ok(entry)));
     }

@@ -336,11 +336,18 @@ fn the_program_prints_what_it_tried() {
 
 #[test]
 fn a_bad_call_gives_one_line_of_usage() {
-    let bad_calls: [&[&str]; 4] = [&[], &["1"], &["1", "x"], &["1", "2", "3"]];
+    let bad_calls: [&[&str]; 6] = [
+        &[],
+        &["1"],
+        &["1", "x"],
+        &["1", "2", "3"],
+        &["--double", "1", "2"],
+        &["1", "2", "--double", "--double"],
+    ];
     for arguments in bad_calls {
         let output = run_walk(arguments);
         assert!(!output.status.success(), "{arguments:?}");
         assert_eq!(output.stdout, b"");
-        assert_eq!(output.stderr, b"usage: walk SEED STEPS\n");
+        assert_eq!(output.stderr, b"usage: walk SEED STEPS [--double]\n");
     }
 }

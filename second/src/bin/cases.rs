@@ -5,8 +5,9 @@ use std::io::{self, Write};
 use std::process::ExitCode;
 
 use second::cases::{all, expected, input};
+use second::double;
 
-const USAGE: &str = "usage: cases input|expected";
+const USAGE: &str = "usage: cases input|expected|doubleinput|doubleexpected";
 
 fn main() -> ExitCode {
     let words: Vec<OsString> = std::env::args_os().skip(1).collect();
@@ -25,9 +26,14 @@ fn main() -> ExitCode {
 
 /// What the call wishes to have written.
 fn read_call(words: &[OsString]) -> Option<Vec<u8>> {
-    match words {
-        [word] if word == "input" => Some(input(&all())),
-        [word] if word == "expected" => Some(expected(&all()).into_bytes()),
+    let [word] = words else {
+        return None;
+    };
+    match word.to_str()? {
+        "input" => Some(input(&all())),
+        "expected" => Some(expected(&all()).into_bytes()),
+        "doubleinput" => Some(double::cases::input(&double::cases::all())),
+        "doubleexpected" => Some(double::cases::expected(&double::cases::all())),
         _ => None,
     }
 }

@@ -5,9 +5,11 @@
 //! the writer. [`all`] is the one list of them; [`input`] gives it as the bytes
 //! that the other program reads, and [`expected`] as the lines that it must
 //! write, computed here with the reader, the writer and the two forms of the
-//! step of this crate.
+//! step of this crate. The readers and writers are of both lines; the steps on a
+//! double line are stored by themselves, in [`crate::double::cases`].
 
 mod counts;
+mod double;
 mod given_up;
 mod logs;
 mod positions;
@@ -17,7 +19,7 @@ mod writer;
 
 use std::fmt::{self, Write};
 
-use crate::entry::{encode, Entry};
+use crate::entry::{Entry, Table};
 use crate::figures::{digest, Figures, PLACE_LENGTH};
 use crate::lister::Printed;
 use crate::log::{Reader, Writer};
@@ -96,6 +98,22 @@ pub enum Case {
         /// The log.
         log: Vec<u8>,
     },
+    /// As [`Case::Write`], by the table of the double line.
+    DoubleWrite {
+        /// The entry, which may be none.
+        entry: Entry,
+        /// The fill point of the buffer.
+        fill: u16,
+        /// The buffer lent.
+        buffer: Vec<u8>,
+    },
+    /// As [`Case::Read`], by the table of the double line.
+    DoubleRead {
+        /// The position.
+        position: u16,
+        /// The log.
+        log: Vec<u8>,
+    },
 }
 
 /// All the cases, the same each time.
@@ -105,6 +123,7 @@ pub fn all() -> Vec<Case> {
     cases.extend(sections::cases());
     cases.extend(writer::cases());
     cases.extend(positions::cases());
+    cases.extend(double::cases());
     cases
 }
 
@@ -140,12 +159,17 @@ impl Case {
                 entry,
                 fill,
                 buffer,
+            }
+            | Case::DoubleWrite {
+                entry,
+                fill,
+                buffer,
             } => {
                 input.extend(entry_figures(entry));
                 input.extend(fill.to_be_bytes());
                 put_bytes(&mut input, buffer);
             }
-            Case::Read { position, log } => {
+            Case::Read { position, log } | Case::DoubleRead { position, log } => {
                 input.extend(position.to_be_bytes());
                 put_bytes(&mut input, log);
             }
@@ -173,6 +197,16 @@ impl Case {
             Case::Step { .. } => 2,
             Case::Write { .. } => 3,
             Case::Read { .. } => 4,
+            Case::DoubleWrite { .. } => 5,
+            Case::DoubleRead { .. } => 6,
+        }
+    }
+
+    /// The table by which entries are read and written.
+    fn table(&self) -> &'static Table {
+        match self {
+            Case::DoubleWrite { .. } | Case::DoubleRead { .. } => &Table::DOUBLE_LINE,
+            _ => &Table::SINGLE_LINE,
         }
     }
 
@@ -184,10 +218,15 @@ impl Case {
                 entry,
                 fill,
                 buffer,
-            } => write_writing(out, entry, usize::from(*fill), buffer),
-            Case::Read { position, log } => {
+            }
+            | Case::DoubleWrite {
+                entry,
+                fill,
+                buffer,
+            } => write_writing(out, self.table(), entry, usize::from(*fill), buffer),
+            Case::Read { position, log } | Case::DoubleRead { position, log } => {
                 writeln!(out, "read {position} {}", log.len())?;
-                let mut reader = Reader::at(log, usize::from(*position));
+                let mut reader = Reader::by(self.table(), log, usize::from(*position));
                 write_next(out, &mut reader).map(drop)
             }
         }
@@ -272,15 +311,21 @@ fn write_step(out: &mut impl Write, section: &Section, bytes: &[u8]) -> fmt::Res
     write_section(out, "memory", &in_memory)
 }
 
-fn write_writing(out: &mut impl Write, entry: &Entry, fill: usize, buffer: &[u8]) -> fmt::Result {
+fn write_writing(
+    out: &mut impl Write,
+    table: &'static Table,
+    entry: &Entry,
+    fill: usize,
+    buffer: &[u8],
+) -> fmt::Result {
     writeln!(out, "write {fill} {}", buffer.len())?;
     let mut appended = buffer.to_vec();
-    let mut writer = Writer::at(&mut appended, fill);
+    let mut writer = Writer::by(table, &mut appended, fill);
     let written = writer.append(entry).map(|()| writer.position());
     writeln!(out, "append {}", Written(written))?;
     writeln!(out, "buffer {}", Hex(&appended))?;
     let mut fronted = buffer.to_vec();
-    let written = encode(entry, &mut fronted);
+    let written = table.encode(entry, &mut fronted);
     writeln!(out, "front {}", Written(written))?;
     writeln!(out, "buffer {}", Hex(&fronted))
 }

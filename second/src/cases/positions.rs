@@ -54,17 +54,20 @@ fn last_trains() -> Vec<u8> {
     entries.concat()
 }
 
-/// At the start, at the start of an entry or inside it, at the end, just past
-/// the end and far past it.
 fn at_every_position(log: &[u8]) -> Vec<Case> {
-    let end = log.len() as u16;
-    (0..=end + 2)
-        .chain([end + 256, u16::MAX])
+    every_position(log)
         .map(|position| Case::Read {
             position,
             log: log.to_vec(),
         })
         .collect()
+}
+
+/// At the start, at the start of an entry or inside it, at the end, just past
+/// the end and far past it.
+pub(super) fn every_position(log: &[u8]) -> impl Iterator<Item = u16> {
+    let end = log.len() as u16;
+    (0..=end + 2).chain([end + 256, u16::MAX])
 }
 
 fn in_the_longest_log() -> Vec<Case> {

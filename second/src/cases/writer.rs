@@ -1,7 +1,7 @@
 //! Entries written into lent buffers.
 
 use super::Case;
-use crate::entry::{bit, entry_length, Entry, Kind, LONGEST_ENTRY};
+use crate::entry::{bit, entry_length, Entry, Kind, Table, LONGEST_ENTRY};
 use crate::section::Station::{A, B};
 
 /// The bytes before the fill point.
@@ -26,14 +26,18 @@ pub(super) fn cases() -> Vec<Case> {
     cases
 }
 
-/// A buffer in which no two neighbours are the same, so that a byte out of its
-/// place shows.
 fn case(entry: &Entry, fill: usize, length: usize) -> Case {
     Case::Write {
         entry: *entry,
         fill: fill as u16,
-        buffer: (0..length).map(|place| 0xA1 ^ (place as u8)).collect(),
+        buffer: buffer(length),
     }
+}
+
+/// A buffer in which no two neighbours are the same, so that a byte out of its
+/// place shows.
+pub(super) fn buffer(length: usize) -> Vec<u8> {
+    (0..length).map(|place| 0xA1 ^ (place as u8)).collect()
 }
 
 /// Entries of every kind with every map of theirs, and their fields at the ends
@@ -113,7 +117,7 @@ fn with_a_long_buffer() -> [Case; 2] {
 fn refused() -> Vec<Entry> {
     let mut entries = without_a_kind();
     for entry in one_of_each_kind() {
-        entries.extend(with_another_map(&entry));
+        entries.extend(with_another_map(&Table::SINGLE_LINE, &entry));
         entries.extend(with_a_field_out_of_range(&entry));
         entries.extend(with_an_absent_field(&entry));
     }
@@ -182,13 +186,13 @@ fn without_a_kind() -> Vec<Entry> {
 
 /// 3: a bit that must stand is absent, or one stands that may not. Nothing else
 /// is wrong.
-fn with_another_map(entry: &Entry) -> Vec<Entry> {
-    let Some(kind) = Kind::from_number(entry.kind) else {
+pub(super) fn with_another_map(table: &Table, entry: &Entry) -> Vec<Entry> {
+    let Some(kind) = table.kind(entry.kind) else {
         return Vec::new();
     };
     (1..8)
         .map(|place| 1 << place)
-        .filter(|bit| kind.may() & bit == 0)
+        .filter(|bit| table.may(kind) & bit == 0)
         .map(|bit| {
             let value = u8::from(entry.map & bit == 0);
             with_field(
@@ -220,7 +224,7 @@ fn with_field(entry: &Entry, bit: u8, value: u8) -> Entry {
 }
 
 /// 4: a present field just below or just above its range.
-fn with_a_field_out_of_range(entry: &Entry) -> Vec<Entry> {
+pub(super) fn with_a_field_out_of_range(entry: &Entry) -> Vec<Entry> {
     let classes = if entry.kind == Kind::Through.number() {
         1
     } else {
@@ -248,7 +252,7 @@ fn with_a_field_out_of_range(entry: &Entry) -> Vec<Entry> {
 }
 
 /// 4: an absent field that is not 0.
-fn with_an_absent_field(entry: &Entry) -> Vec<Entry> {
+pub(super) fn with_an_absent_field(entry: &Entry) -> Vec<Entry> {
     let absent = |bit: u8| entry.map & bit == 0;
     let mut entries: Vec<Entry> = (1..7)
         .map(|place| 1 << place)
@@ -318,7 +322,7 @@ mod tests {
         assert!(without_a_kind().iter().all(|entry| refusal(entry) == 2));
         for entry in one_of_each_kind() {
             assert_eq!(refusal(&entry), 0);
-            for wrong in with_another_map(&entry) {
+            for wrong in with_another_map(&Table::SINGLE_LINE, &entry) {
                 assert_eq!(refusal(&wrong), 3, "{wrong:?}");
             }
             for wrong in with_a_field_out_of_range(&entry) {

@@ -6,33 +6,37 @@
 
 use second::entry::LONGEST_ENTRY;
 use second::{
-    encode, step, step_in_place, Accepted, Answer, Desk, Entry, Refusal, Refused, Section, Speed,
+    double, Accepted, Answer, Desk, Entry, Refusal, Refused, Section, Speed, Table, Working,
 };
 
-/// The bytes of an entry that may be written.
+/// The bytes of an entry that may be written on a single line.
 pub fn bytes_of(entry: &Entry) -> Vec<u8> {
+    bytes_by(&Table::SINGLE_LINE, entry)
+}
+
+/// The bytes of an entry that may be written by this table.
+pub fn bytes_by(table: &Table, entry: &Entry) -> Vec<u8> {
     let mut buffer = [0; LONGEST_ENTRY];
-    let length = encode(entry, &mut buffer).expect("the entry may be written");
+    let written = table.encode(entry, &mut buffer);
+    let length = written.expect("the entry may be written");
     buffer[..length].to_vec()
 }
 
 /// Steps in both forms, which have to agree, and tests what a refusal alters.
-pub fn step_and_test(section: &mut Section, bytes: &[u8]) -> Answer {
-    let before = section.clone();
-    let (answer, after) = step(section, bytes);
+pub fn step_and_test<S: Working>(section: &mut S, bytes: &[u8]) -> Answer {
+    let mut before = section.clone();
+    let (answer, after) = section.step(bytes);
     assert_eq!(section, &before, "the section lent is not to be altered");
-    assert_eq!(step_in_place(section, bytes), answer);
+    assert_eq!(section.step_in_place(bytes), answer);
     assert_eq!(section, &after);
     match answer {
-        Ok(_) => assert_eq!(after.refused, before.refused),
+        Ok(_) => assert_eq!(after.refused(), before.refused()),
         Err(Refusal::IllMade) => assert_eq!(after, before),
-        Err(refusal) => assert_eq!(
-            after,
-            Section {
-                refused: counted(before.refused, refusal.number(), bytes),
-                ..before
-            }
-        ),
+        Err(refusal) => {
+            let refused = counted(before.refused(), refusal.number(), bytes);
+            *before.refused_mut() = refused;
+            assert_eq!(after, before);
+        }
     }
     answer
 }
@@ -53,8 +57,8 @@ fn counted(mut refused: Refused, refusal: u8, bytes: &[u8]) -> Refused {
 }
 
 /// A section under entry.
-pub struct Register {
-    pub section: Section,
+pub struct Register<S = Section> {
+    pub section: S,
 }
 
 impl Register {
@@ -71,9 +75,27 @@ impl Register {
         register.accept(Entry::begin());
         register
     }
+}
 
+impl Register<double::Section> {
+    /// Starts from the fresh section of a double line.
+    pub fn double() -> Register<double::Section> {
+        Register {
+            section: double::Section::fresh(),
+        }
+    }
+
+    /// Starts with the failure declared on a double line.
+    pub fn double_begun() -> Register<double::Section> {
+        let mut register = Register::double();
+        register.accept(Entry::begin());
+        register
+    }
+}
+
+impl<S: Working> Register<S> {
     pub fn enter(&mut self, entry: Entry) -> Answer {
-        step_and_test(&mut self.section, &bytes_of(&entry))
+        step_and_test(&mut self.section, &bytes_by(S::TABLE, &entry))
     }
 
     /// Enters what has to be accepted.

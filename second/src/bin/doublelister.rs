@@ -1,0 +1,9 @@
+//! Reads a double line's log from standard input and lists it.
+
+use std::process::ExitCode;
+
+use second::lister::list_standard_input;
+
+fn main() -> ExitCode {
+    list_standard_input("doublelister", second::double::list)
+}

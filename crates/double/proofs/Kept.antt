@@ -79,7 +79,7 @@ pub record Keeps (s : Section) (e : Decoded) (r : Stepped) : Type 0 where
   pub order : (x : Station) (sent got : List ℕ) → sent ≡ got ++ lineOf (sideOf s x)
       → departedBy x e (r .answer) sent ≡ receivedBy (otherAt x) e (r .answer) got ++ lineOf (sideOf (r .section) x)
 
-side-of : (s : Section) → wellMade s ≡ true → (x : Station) → Made (sideOf s x)
+pub side-of : (s : Section) → wellMade s ≡ true → (x : Station) → Made (sideOf s x)
 unfolding wellMade
 side-of s h A = made-of (s .a) (each-holds (madeTests s) h .0)
 side-of s h B = made-of (s .b) (each-holds (madeTests s) h .1 .0)

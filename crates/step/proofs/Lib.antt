@@ -1,5 +1,6 @@
 pub mod Advancing
 pub mod Containing
+pub mod EitherTable
 pub mod Ending
 pub mod Examples
 pub mod Filling

@@ -6,22 +6,21 @@
 --   the ring's  | A's twelve places of form numbers, then B's
 --
 -- All other words are passed by.
-use Prim.Native.Nat.{_%_, _+_, _≤_, min, ℕ}
+use Prim.Native.Nat.{_%_, ℕ}
 use Rattle.double.specs.Sections.{lineOf, sideOf, withSide}
 use Rattle.double.specs.Steps.{Decoded, Event, onDecoded}
 use Rattle.double.specs.declared.Section.{Section}
 use Rattle.double.specs.declared.Side.{Side}
 use Rattle.words.specs.Words.{countsIn, deskIn, ringFrom, ringIn, wordCount}
-use Rattle.working.specs.Entries.{pasted}
 use Rattle.working.specs.Events.{Says}
-use Rattle.working.specs.Sections.{padWith}
+use Rattle.working.specs.Sections.{otherAt, padWith}
 use Rattle.working.specs.declared.Answer.{Answer}
 use Rattle.working.specs.declared.Desk.{Desk}
 use Rattle.working.specs.declared.Station.the-variants.{A, B}
 use Rattle.working.specs.declared.Station.{Station}
 use lib.Dec.{eqb}
 use lib.ListN.{drop, getD, length, take}
-use mathlib.Core.List.{List, map}
+use mathlib.Core.List.{List, _++_, map}
 use mathlib.Core.Path.{_≡_}
 
 -- ---- the lines
@@ -31,23 +30,13 @@ abbrev pub placesFrom : Station → ℕ
 placesFrom A = 0
 placesFrom B = 12
 
--- form numbers of two bytes each
-abbrev pub numbers : List ℕ → List ℕ
-numbers l = map (λ (word : ℕ). word % 65536) l
-
--- the twelve words of a station's places
+-- the form numbers in a station's twelve places of the ring, two bytes of each word
 abbrev pub placesIn : List ℕ → Station → List ℕ
-placesIn ring x = take 12 (drop (placesFrom x) ring)
+placesIn ring x = map (λ (word : ℕ). word % 65536) (take 12 (drop (placesFrom x) ring))
 
--- a side by its desk and the words of its places: the first of them, as many as are on the line
+-- a side by its desk and the numbers in its places: the first of them, as many as are on the line
 abbrev pub sideBy : Desk → List ℕ → Side
-sideBy d places = record {
-  clock = d .clock;
-  last = d .last;
-  interval = d .interval;
-  numbers = padWith 0 12 (take (min (d .sent) 12) (numbers places));
-  len = d .sent;
-}
+sideBy d places = record { clock = d .clock; last = d .last; interval = d .interval; numbers = padWith 0 12 (take (d .sent) places); len = d .sent }
 
 abbrev pub sideIn : List ℕ → Station → Side
 sideIn w x = sideBy (deskIn w x) (placesIn (ringIn w) x)
@@ -65,21 +54,19 @@ trimmedSide d = record { clock = d .clock; last = d .last; interval = d .interva
 abbrev pub trimmed : Section → Section
 trimmed s = record { force = s .force; refused = s .refused; a = trimmedSide (s .a); b = trimmedSide (s .b) }
 
--- the places alone are put
-abbrev pub placesPut : List ℕ → Side → Side
-placesPut l d = record { clock = d .clock; last = d .last; interval = d .interval; numbers = padWith 0 12 (take (min (d .len) 12) l); len = d .len }
-
 -- ---- what a function makes of the words that it is lent
 
--- the ring's words alone are altered
-pub record RingBecomes (before after : List ℕ) (f : List ℕ → List ℕ) : Type 0 where
+-- the numbers in a station's places alone are altered
+pub record PlacesBecome (before after : List ℕ) (x : Station) (f : List ℕ → List ℕ) : Type 0 where
   pub long : length before ≡ wordCount
+  pub same : length after ≡ length before
   pub figures : take ringFrom after ≡ take ringFrom before
-  pub ring : ringIn after ≡ f (ringIn before)
+  pub places : placesIn (ringIn after) x ≡ f (placesIn (ringIn before) x)
+  pub others : placesIn (ringIn after) (otherAt x) ≡ placesIn (ringIn before) (otherAt x)
 
--- every word of a station's places but the last is that of the place behind it
-abbrev pub movedUp : Station → List ℕ → List ℕ
-movedUp x ring = pasted ring (placesFrom x) (drop 1 (placesIn ring x))
+-- each number is that of the place behind it, and the last place keeps its own
+abbrev pub movedUp : List ℕ → List ℕ
+movedUp l = take 11 (drop 1 l) ++ drop 11 l
 
 -- a station's side alone is altered
 abbrev pub SideBecomes : List ℕ → List ℕ → Station → (Side → Side) → Type 0

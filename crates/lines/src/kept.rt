@@ -1,7 +1,6 @@
 // A double line section put into words, and read off them.
 ghost use Rattle.double.specs.Sections.{sideOf};
-ghost use Rattle.lines.specs.Lines.{SideBecomes, doubleIn, placesPut, trimmed, trimmedSide};
-ghost use Rattle.words.specs.Words.{sectionIn};
+ghost use Rattle.lines.specs.Lines.{PlacesBecome, SideBecomes, doubleIn, trimmed, trimmedSide};
 ghost use mathlib.Core.Path.{_≡_};
 use crate::places::TWO_BYTES;
 use crate::places::fitting;
@@ -21,6 +20,7 @@ use working::Station;
 fn numbers_in(words: &Words, at: Station) -> [u16; Side::PLACES]
     ensures { λ r. ⌜ r ≡ sideOf (doubleIn (now (words .entry))) at .numbers ⌝ }
 {
+    let _ = &words[..];
     let from = line_from(at);
     let present = fitting(desk(words, at).sent);
     let mut numbers = [0u16; Side::PLACES];
@@ -60,7 +60,7 @@ pub fn section_in(words: &Words) -> Section
 
 // The twelve places of a line.
 fn put_places(words: &mut Words, at: Station, numbers: [u16; Side::PLACES])
-    ensures { λ _. ⌜ SideBecomes (now (words .entry)) (now (words .exit)) at (placesPut numbers) ⌝ }
+    ensures { λ _. ⌜ PlacesBecome (now (words .entry)) (now (words .exit)) at (λ _. numbers) ⌝ }
 {
     let _ = &words[..];
     let from = line_from(at);

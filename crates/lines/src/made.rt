@@ -51,8 +51,8 @@ fn side_made(d: Side) -> bool
     if Side::PLACES < len {
         return false;
     }
-    let figures = (d.last <= Desk::LAST_FORM) & is_not_later(interval, d.clock);
-    figures & (rises(numbers, len, d.last) & unused_from(numbers, len))
+    let line = rises(numbers, len, d.last) & unused_from(numbers, len);
+    (d.last <= Desk::LAST_FORM) & line & is_not_later(interval, d.clock)
 }
 
 // Whether nothing has been entered at a side.

@@ -2,8 +2,9 @@
 ghost use Prim.Native.Nat.{_+_, _-_, _<_, _≤_, min};
 ghost use Rattle.double.specs.Sections.{lineOf, side, sideOf};
 ghost use Rattle.double.specs.Steps.{cleared, isFirst};
-ghost use Rattle.lines.specs.Lines.{RingBecomes, SideBecomes, doubleIn, movedUp, placesFrom};
-ghost use Rattle.words.specs.Words.{ringFrom, wordCount};
+ghost use Rattle.lines.specs.Lines.{PlacesBecome, SideBecomes, doubleIn, movedUp, placesFrom};
+ghost use Rattle.words.specs.Words.{ringFrom, sectionIn, wordCount};
+ghost use Rattle.working.specs.Sections.{deskOf};
 ghost use Rattle.working.specs.declared.Interval.the-variants.{Since};
 ghost use mathlib.Core.List.{[], _++_, _∷_};
 ghost use mathlib.Core.Path.{_≡_};
@@ -44,6 +45,7 @@ pub(crate) fn fitting(len: u8) -> usize
 pub(crate) fn is_first(words: &Words, at: Station, form: u16) -> bool
     ensures { λ r. ⌜ r ≡ isFirst form (lineOf (sideOf (doubleIn (now (words .entry))) at)) ⌝ }
 {
+    let _ = &words[..];
     let d = desk(words, at);
     let first = (words[line_from(at)] % TWO_BYTES) as u16;
     (0 < d.sent) & (first == form)
@@ -51,17 +53,17 @@ pub(crate) fn is_first(words: &Words, at: Station, form: u16) -> bool
 
 // A train leaves under a form number, the last on its line, behind the `sent` that are there: its station's clock, last form number and interval follow it.
 pub(crate) fn put_train(words: &mut Words, at: Station, time: u16, form: u16, sent: u8)
-    requires { ⌜ (sent ≡ sideOf (doubleIn (now words)) at .len) × (sent < 12) ⌝ }
+    requires { ⌜ (sent ≡ deskOf (sectionIn (now words)) at .sent) × (sent < 12) ⌝ }
     ensures { λ _. ⌜ SideBecomes (now (words .entry)) (now (words .exit)) at (λ d. side time form (Since time) (lineOf d ++ form ∷ [])) ⌝ }
 {
+    put_departure(words, at, time, form, sent + 1);
     let _ = &words[..];
     words[line_from(at) + sent as usize] = form as u64;
-    put_departure(words, at, time, form, sent + 1);
 }
 
 // Every number of a line moves to the place before it; the last place keeps its own.
 fn move_up(words: &mut Words, at: Station)
-    ensures { λ _. ⌜ RingBecomes (now (words .entry)) (now (words .exit)) (movedUp at) ⌝ }
+    ensures { λ _. ⌜ PlacesBecome (now (words .entry)) (now (words .exit)) at movedUp ⌝ }
 {
     let _ = &words[..];
     let from = line_from(at);
@@ -85,8 +87,8 @@ pub(crate) fn take_first(words: &mut Words, at: Station)
     ensures { λ _. ⌜ SideBecomes (now (words .entry)) (now (words .exit)) at cleared ⌝ }
 {
     let d = desk(words, at);
-    move_up(words, at);
     put_sent(words, at, fewer(fitting(d.sent)));
+    move_up(words, at);
 }
 
 // How many trains are on both lines.

@@ -1,27 +1,30 @@
-// Lists a log from standard input on standard output. What the machine fails at is said on standard error: after a failed read nothing is listed,
+// Lists a single line's log from standard input on standard output. What the machine fails at is said on standard error: after a failed read nothing is listed,
 // and after a failed write nothing more. A contract cannot say what is read or written, so what is here is thin; scripts/try-lister runs it.
 mod reading;
 
 ghost use Prim.Native.Nat.{_≤_};
 ghost use Rattle.listing.specs.LineText.{longestLine};
 ghost use lib.ListN.{length};
+use input::Input;
 use libc::STDERR_FILENO;
 use libc::STDOUT_FILENO;
-use reading::Input;
 use reading::read_log;
+use words::fresh_words;
+use working::Table;
 
 // Writes the listing of a log, a block at a time; says whether all of it was written.
 fn write_listing(log: &[u8], block: &mut [u8]) -> bool
     requires { ⌜ longestLine ≤ length (now block) ⌝ }
 {
-    let mut listing = step::begin(log);
-    while !listing.ended {
-        let filled = step::fill(listing, log, block);
-        let count = filled.count;
+    let mut words = fresh_words();
+    let mut listed = step::start_of(log.len());
+    while !listed.ended {
+        let put = step::fill(Table::SingleLine, &mut words, listed, log, block);
+        let count = put.behind;
         if !io::write_all(STDOUT_FILENO, &block[..count]) {
             return false;
         }
-        listing = filled.listing;
+        listed = put.listed;
     }
     true
 }

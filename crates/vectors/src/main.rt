@@ -1,4 +1,5 @@
-// Lists the logs on standard input, each packed behind its length in four bytes, high byte first. They are logs of the second program, and `stdout` is what it listed.
+// Lists the logs on standard input, each packed behind a byte that says its table (2 a double line's, else a single line's) and its length in four bytes, high byte first.
+// They are logs of the second program, and `stdout` is what it listed.
 // This is a test, held to what it writes: a read or a write that fails leaves something out, so the comparison fails. It says no more of an error.
 ghost use Prim.Native.Nat.{_*_, _+_, _<_, _≤_, min};
 ghost use Rattle.working.specs.Entries.{valueOf};
@@ -6,6 +7,7 @@ ghost use lib.ListN.{length};
 ghost use mathlib.Core.Path.{_≡_};
 use libc::STDIN_FILENO;
 use libc::STDOUT_FILENO;
+use working::Table;
 
 // Room for the longest log and a byte more, which tells a longer one.
 const ROOM: usize = 65537;
@@ -25,29 +27,38 @@ fn packed_length(head: [u8; 4]) -> usize
     if length < ROOM { length } else { ROOM }
 }
 
-// Writes the listing of a log in one block, which has room for the longest of the logs stored; the lister writes in many.
-fn list(log: &[u8], block: &mut [u8]) {
-    let filled = step::fill(step::begin(log), log, block);
-    let count = filled.count;
+// The table that a byte says.
+fn packed_table(first: u8) -> Table {
+    if first == 2 {
+        return Table::DoubleLine;
+    }
+    Table::SingleLine
+}
+
+// Writes the listing of a log in one block, which has room for the longest of the logs stored; the listers write in many.
+fn list(table: Table, log: &[u8], block: &mut [u8]) {
+    let count = step::list(table, log, block);
     io::write_all(STDOUT_FILENO, &block[..count]);
 }
 
 // Fills the log lent from standard input and lists what was read.
-fn list_read(log: &mut [u8], block: &mut [u8]) {
+fn list_read(table: Table, log: &mut [u8], block: &mut [u8]) {
     let read = io::read_full(STDIN_FILENO, log);
-    list(&log[..read], block);
+    list(table, &log[..read], block);
 }
 
 // Lists one log, read into the room lent; says whether there was one.
 fn list_next(room: &mut [u8], block: &mut [u8]) -> bool
     requires { ⌜ 65537 ≤ length (now room) ⌝ }
 {
+    let mut first = [0u8; 1];
     let mut head = [0u8; 4];
+    io::read_full(STDIN_FILENO, &mut first);
     if io::read_full(STDIN_FILENO, &mut head) < 4 {
         return false;
     }
     let length = packed_length(head);
-    list_read(&mut room[..length], block);
+    list_read(packed_table(first[0]), &mut room[..length], block);
     true
 }
 

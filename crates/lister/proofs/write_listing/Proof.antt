@@ -3,8 +3,11 @@
 use Prim.Native.Nat.{_≤_}
 use Rattle.lister.proofs.write_listing.Statement.{statement}
 use Rattle.lister.proofs.write_listing.Tie as tie
-use Rattle.step.proofs.Ending.{block-fewer, linesLeft}
 use Rattle.listing.specs.LineText.{longestLine}
+use Rattle.step.proofs.Ending.{block-fewer, linesLeft}
+use Rattle.step.specs.Lines.{listingIn}
+use Rattle.words.specs.Words.{sectionIn}
+use Rattle.working.specs.declared.Table.the-variants.{SingleLine}
 use borrow.Author.Needs.{needs}
 use borrow.Author.Tests.{not-true}
 use lib.ListN.{length}
@@ -13,28 +16,29 @@ use mathlib.Core.Path.{_≡_, sym}
 use native.Mathlib.Omega.{arith}
 
 abbrev Inv-loop : tie.InvT-loop
-Inv-loop log block₀ listing₀ block listing = (length block ≡ length block₀) × (longestLine ≤ length block)
+Inv-loop log block₀ words₀ listed₀ block words listed = (length block ≡ length block₀) × (longestLine ≤ length block)
 
 abbrev μ-loop : tie.MeasureT-loop
-μ-loop log block₀ listing₀ block listing = linesLeft listing
+μ-loop log block₀ words₀ listed₀ block words listed = linesLeft (listingIn listed (sectionIn words))
 
 slice-aggregate-write-all : tie.Need-slice-aggregate-write-all Inv-loop μ-loop
 slice-aggregate-write-all c =
     let fill = c .before .before .before .fill in
-    sym (length-take-le (fill .result .count) (fill .last .1 .1 .0) (omega (arith, fill .ensures .room, fill .kept .1 .1 .0)))
+    sym (length-take-le (fill .result .behind) _ (omega (arith, fill .ensures .fills .room, fill .kept)))
 
 loop-less : tie.Need-loop-less Inv-loop μ-loop
 loop-less c =
     let written = c .before .before in
     let filled = written .before .before .before .before in
-    let test = filled .before .before in
+    let test = filled .before .before .before in
     let turn = test .before .before .loop in
     let room = length (turn .block) in
-    let more = not-true (turn .listing .ended) (test .if1 .taken) in
-    rw (filled .fill .ensures .listing) (block-fewer _ room (turn .listing) room more (omega (arith, turn .inv)) (omega (arith, turn .inv)))
+    let more = not-true (turn .listed .ended) (test .if1 .taken) in
+    rw (filled .fill .ensures .fills .listing)
+    (block-fewer SingleLine _ room (listingIn (turn .listed) (sectionIn (turn .words))) room more (omega (arith, turn .inv)) (omega (arith, turn .inv)))
 
 pub write-listing-spec : {M : Type 1} → statement M
 write-listing-spec =
     tie.close
-    (tie.spec Inv-loop μ-loop (λ c κs. search needs) (λ c. search needs) (λ c κs. search needs) (λ c. search needs) slice-aggregate-write-all (λ c κs. search needs)
-    (λ c. search needs) (λ c. search needs) loop-less (λ c. search needs) (λ c. search needs) (λ c. search needs))
+    (tie.spec Inv-loop μ-loop (λ c κs. search needs) (λ c κs. search needs) (λ c. search needs) (λ c κs. search needs) (λ c. search needs) slice-aggregate-write-all
+    (λ c κs. search needs) (λ c. search needs) (λ c. search needs) loop-less (λ c. search needs) (λ c. search needs) (λ c. search needs))

@@ -9,11 +9,10 @@ use native.Mathlib.Omega.{arith}
 
 slice-aggregate-write-all : tie.Need-slice-aggregate-write-all
 slice-aggregate-write-all c =
-    let fill = c .before .before .before .fill in
-    sym (length-take-le (fill .result .count) (fill .last .1 .1 .0) (omega (arith, fill .ensures .room, fill .kept .1 .1 .0)))
+    let list = c .before .before .before .list in
+    sym (length-take-le (list .result) _ (omega (arith, list .ensures .room, list .kept)))
 
 pub list-spec : {M : Type 1} → statement M
 list-spec =
     tie.close
-    (tie.spec (λ c κs. search needs) (λ c κs. search needs) (λ c. search needs) slice-aggregate-write-all (λ c κs. search needs) (λ c. search needs)
-    (λ c. search needs))
+    (tie.spec (λ c κs. search needs) (λ c. search needs) slice-aggregate-write-all (λ c κs. search needs) (λ c. search needs) (λ c. search needs))

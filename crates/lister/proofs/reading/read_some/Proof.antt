@@ -1,20 +1,11 @@
--- `lister::reading::read_some` meets its contract: what C's answer counts lies within the memory lent.
+-- `reading::read_some` meets its contract: what C's answer counts lies within the memory lent.
 -- Assumes nothing.
-use Prim.Native.Nat.{_≤_, ℕ}
+use Rattle.input.proofs.Following.{within}
 use Rattle.lister.proofs.reading.read_some.Statement.{statement}
 use Rattle.lister.proofs.reading.read_some.Tie as tie
-use Rattle.lister.specs.Reading.{Within, cameBy}
 use borrow.Author.Needs.{needs}
-use lib.IntN.{negsuc, pos, ℤ}
 use lib.ListN.{length}
-use mathlib.Core.Bool.{Bool, false, true}
 use native.Mathlib.Omega.{arith}
-
-within : (got : ℤ) (interrupted : Bool) (count room : ℕ) → count ≤ room → Within (cameBy got interrupted count) room
-unfolding cameBy
-within (pos n) interrupted count room inside = inside
-within (negsuc n) true count room inside = tt
-within (negsuc n) false count room inside = tt
 
 returns : tie.Need-returns
 returns c =

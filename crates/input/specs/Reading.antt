@@ -1,11 +1,11 @@
 -- What a read comes to, and what follows it.
 use Prim.Native.Nat.{_+_, _-_, _≤_, ℕ}
-use Rattle.lister.specs.declared.reading.Came.the-variants.{Bytes, Failed, Interrupted}
-use Rattle.lister.specs.declared.reading.Came.{Came}
-use Rattle.lister.specs.declared.reading.Input.the-variants as input
-use Rattle.lister.specs.declared.reading.Input.{Input}
-use Rattle.lister.specs.declared.reading.Reading.the-variants.{On, Over}
-use Rattle.lister.specs.declared.reading.Reading.{Reading}
+use Rattle.input.specs.declared.Came.the-variants.{Bytes, Failed, Interrupted}
+use Rattle.input.specs.declared.Came.{Came}
+use Rattle.input.specs.declared.Input.the-variants as input
+use Rattle.input.specs.declared.Input.{Input}
+use Rattle.input.specs.declared.Reading.the-variants as reading
+use Rattle.input.specs.declared.Reading.{Reading}
 use Rattle.listing.specs.LineText.{longestLog}
 use lib.Dec.{eqb}
 use lib.IntN.{negsuc, pos, ℤ}
@@ -26,11 +26,11 @@ Within (Bytes count) room = count ≤ room
 Within Interrupted room = Unit {0}
 Within Failed room = Unit {0}
 
--- what follows a read, where so many bytes were read before it and so many interrupted reads are still allowed
-unfoldable pub behindRead : ℕ → ℕ → Came → Reading
-behindRead done patience (Bytes count) = cond (eqb count 0) (Over (input.Log done)) (On (done + count) patience)
-behindRead done patience Interrupted = cond (eqb patience 0) (Over input.Failed) (On done (patience - 1))
-behindRead done patience Failed = Over input.Failed
+-- what follows a read, where so many interrupted reads are still allowed
+unfoldable pub behindRead : ℕ → Came → Reading
+behindRead patience (Bytes count) = cond (eqb count 0) reading.Ended (reading.On count patience)
+behindRead patience Interrupted = cond (eqb patience 0) reading.Failed (reading.On 0 (patience - 1))
+behindRead patience Failed = reading.Failed
 
 -- a log has no more bytes than there is room for
 abbrev pub Holds : Input → ℕ → Type 0

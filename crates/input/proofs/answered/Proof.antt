@@ -1,10 +1,10 @@
--- `lister::reading::answered` meets its contract: an answer that is not negative counts bytes, and any other is told apart by the flag.
+-- `input::answered` meets its contract: an answer that is not negative counts bytes, and any other is told apart by the flag.
 -- Assumes nothing.
 use Prim.Native.Nat.{ℕ}
-use Rattle.lister.proofs.reading.answered.Statement.{statement}
-use Rattle.lister.proofs.reading.answered.Tie as tie
-use Rattle.lister.specs.Reading.{cameBy}
-use Rattle.lister.specs.declared.reading.Came.the-variants.{Bytes, Failed, Interrupted}
+use Rattle.input.proofs.answered.Statement.{statement}
+use Rattle.input.proofs.answered.Tie as tie
+use Rattle.input.specs.Reading.{cameBy}
+use Rattle.input.specs.declared.Came.the-variants.{Bytes, Failed, Interrupted}
 use borrow.Author.Tests.{leb-false}
 use lib.IntN.{negsuc, pos, ℤ}
 use lib.Signed.{leZ}

@@ -1,6 +1,7 @@
 -- Entries, lists and sections of the double line, each by computation.
 -- Assumes nothing.
 use Prim.Native.Nat.{ℕ}
+use Rattle.double.proofs.Computing.{step-computes}
 use Rattle.double.proofs.InOrder.{in-order}
 use Rattle.double.proofs.Lists.{after, done, runs}
 use Rattle.double.specs.InOrder.{departures, receipts}
@@ -9,7 +10,6 @@ use Rattle.double.specs.Steps.{Decoded, decode, stepOf}
 use Rattle.double.specs.WellMade.{wellMade}
 use Rattle.double.specs.declared.Section.{Section}
 use Rattle.double.specs.declared.Side.{Side}
-use Rattle.working.proofs.Computing.{reading-computes}
 use Rattle.working.proofs.EntryTable.{below}
 use Rattle.working.proofs.Lists.{Todo}
 use Rattle.working.proofs.Literals.{begin, plain, receive, resume}
@@ -29,11 +29,6 @@ use mathlib.Core.Bool.{Bool, false, true}
 use mathlib.Core.List.{List, [], _++_, _∷_, map}
 use mathlib.Core.Path.{_≡_, refl}
 
--- what is opened to compute a step
-unfoldable computes : Unit {0}
-unfolding decode padWith reading-computes stepOf wellMade
-computes = tt
-
 -- ---- which bytes are an entry
 
 -- bytes pass the refusals up to a number
@@ -47,7 +42,7 @@ bytesWith map kind = map ∷ kind ∷ 1 ∷ 1 ∷ 1 ∷ 1 ∷ 1 ∷ 1 ∷ 1 ∷ 
 
 -- of the 256 kinds four are known
 known-kinds : below (λ kind. passes 2 (decode (bytesWith 0x07 kind))) 256 [] ≡ 1 ∷ 5 ∷ 6 ∷ 8 ∷ []
-unfolding computes
+unfolding step-computes
 known-kinds = refl
 
 -- and each has one of the 256 maps
@@ -55,7 +50,7 @@ abbrev mapsOf : ℕ → List ℕ
 mapsOf kind = below (λ map. passes 4 (decode (bytesWith map kind))) 256 []
 
 maps-by-kind : mapsOf 1 ∷ mapsOf 5 ∷ mapsOf 6 ∷ mapsOf 8 ∷ [] ≡ (0x01 ∷ []) ∷ (0x07 ∷ []) ∷ (0x87 ∷ []) ∷ (0x01 ∷ []) ∷ []
-unfolding computes
+unfolding step-computes
 maps-by-kind = refl
 
 -- ---- lists of entries
@@ -108,17 +103,17 @@ log-answers : answers fresh log ≡
     Refused NotInForce ∷ Refused NotInForce ∷ plain ∷ Refused AlreadyInForce ∷ order 1 ∷ Refused VehiclePresent ∷ Refused IntervalRunning ∷ order 2
     ∷ Refused NotNearest ∷ order 1 ∷ Refused NotNearest ∷ Refused NotNearest ∷ plain ∷ Refused BeforeClock ∷ plain ∷ Refused VehiclePresent ∷ plain
     ∷ Refused IntervalRunning ∷ order 3 ∷ plain ∷ plain ∷ Refused EndsInside ∷ Refused UnknownKind ∷ Refused WrongMap ∷ Refused OutOfRange ∷ []
-unfolding computes
+unfolding step-computes
 log-answers = refl
 
 -- whose they were, which is all that is left
 log-after : after fresh (todo log) ≡ emptied false (record { a = 4; b = 3; none = 8 })
-unfolding computes
+unfolding step-computes
 log-after = refl
 
 -- A's departures since BEGIN; after another BEGIN there are none
 log-departures : (departures A [] (done fresh (todo log)) ≡ 1 ∷ 2 ∷ 3 ∷ []) × (departures A [] (done fresh (todo (log ++ begin ∷ []))) ≡ [])
-unfolding computes
+unfolding step-computes
 log-departures = (refl, refl)
 
 -- ---- the thirteenth departure
@@ -130,17 +125,17 @@ twelve =
 
 -- there is room for twelve on B's line all the same
 own-room : answers (after fresh (todo twelve)) (train 1 1 104 ∷ train 2 0 0 ∷ []) ≡ Refused TwelveSent ∷ order 1 ∷ []
-unfolding computes
+unfolding step-computes
 own-room = refl
 
 -- a receipt at B makes room at A
 thirteenth : answers (after fresh (todo twelve)) (receive 2 100 1 1 ∷ train 1 1 104 ∷ []) ≡ plain ∷ order 13 ∷ []
-unfolding computes
+unfolding step-computes
 thirteenth = refl
 
 -- the same two changed about: that neighbours of two stations may change places is not claimed of a double line
 changed-about : answers (after fresh (todo twelve)) (train 1 1 104 ∷ receive 2 100 1 1 ∷ []) ≡ Refused TwelveSent ∷ plain ∷ []
-unfolding computes
+unfolding step-computes
 changed-about = refl
 
 -- the theorem for that list: the thirteen that departed are the one received and the twelve on the line
@@ -152,7 +147,7 @@ whole-in-order = in-order (runs fresh whole) .order B
 
 whole-told : (receipts B [] (done fresh whole) ≡ 1 ∷ [])
     × (lineOf (after fresh whole .a) ≡ 2 ∷ 3 ∷ 4 ∷ 5 ∷ 6 ∷ 7 ∷ 8 ∷ 9 ∷ 10 ∷ 11 ∷ 12 ∷ 13 ∷ [])
-unfolding computes
+unfolding step-computes
 whole-told = (refl, refl)
 
 -- ---- 19 at the clock's end: 15 minutes after a departure at 65,520; and 30 minutes after one at 65,505 it has run
@@ -160,7 +155,7 @@ whole-told = (refl, refl)
 clock-end :
     (answers fresh (begin ∷ train 1 255 240 ∷ train 1 255 255 ∷ []) ≡ plain ∷ order 1 ∷ Refused IntervalRunning ∷ [])
     × (answers fresh (begin ∷ train 1 255 225 ∷ train 1 255 255 ∷ []) ≡ plain ∷ order 1 ∷ order 2 ∷ [])
-unfolding computes
+unfolding step-computes
 clock-end = (refl, refl)
 
 -- ---- sections taken as they stand, and not as a list from fresh leaves them
@@ -172,20 +167,20 @@ sectionWith d = record { force = true; refused = noneRefused; a = d; b = freshSi
 -- 18: A has used form 9,998
 forms-used : (wellMade (sectionWith (side 0 9998 Stopped [])) ≡ true)
     × (answers (sectionWith (side 0 9998 Stopped [])) (train 1 0 0 ∷ train 1 0 30 ∷ []) ≡ order 9999 ∷ Refused FormsUsed ∷ [])
-unfolding computes
+unfolding step-computes
 forms-used = (refl, refl)
 
 -- a gap in a line's numbers: they rise, and that is all that is asked of them; the first of them is received
 gap : (wellMade (sectionWith (side 0 7 Stopped (2 ∷ 5 ∷ []))) ≡ true)
     × (answers (sectionWith (side 0 7 Stopped (2 ∷ 5 ∷ []))) (receive 2 0 1 3 ∷ receive 2 0 1 2 ∷ receive 2 0 1 3 ∷ receive 2 0 1 5 ∷ train 1 0 0 ∷ [])
     ≡ Refused NotNearest ∷ plain ∷ Refused NotNearest ∷ plain ∷ order 8 ∷ [])
-unfolding computes
+unfolding step-computes
 gap = (refl, refl)
 
 -- each count stops at its own largest value
 counts-stop : after (emptied false (record { a = 4294967295; b = 4294967294; none = 4294967295 })) (todo (train 1 0 0 ∷ train 2 0 0 ∷ train 2 0 0 ∷ resume ∷ []))
     ≡ emptied false (record { a = 4294967295; b = 4294967295; none = 4294967295 })
-unfolding computes
+unfolding step-computes
 counts-stop = refl
 
 -- ---- 5: sections that are not well made, each by one test alone; the step alters nothing
@@ -204,5 +199,5 @@ illMade =
     ∷ []
 
 ill-made : map (λ s. stepOf s begin) illMade ≡ map (λ s. record { answer = Refused IllMade; section = s }) illMade
-unfolding computes
+unfolding step-computes
 ill-made = refl

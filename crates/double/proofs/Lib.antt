@@ -1,3 +1,4 @@
+pub mod Computing
 pub mod Examples
 pub mod InOrder
 pub mod Kept
@@ -6,3 +7,4 @@ pub mod Lists
 pub mod NeverFive
 pub mod Reading
 pub mod RoundTrips
+pub mod ShortLogs

@@ -1,4 +1,4 @@
-/* The lister's calls of read and write, made to fall short or to fail, for scripts/try-lister: cc -shared -fPIC, and LD_PRELOAD.
+/* A lister's calls of read and write, made to fall short or to fail, for scripts/try-lister: cc -shared -fPIC, and LD_PRELOAD.
  * SHIM_READ (of standard input) and SHIM_WRITE (of standard output) hold words with a blank behind each, one for a call:
  *   a number     move at most so many bytes
  *   interrupted  EINTR
@@ -17,7 +17,7 @@
 static char *of_read, *of_write;
 
 __attribute__((constructor)) static void begin(void) {
-    if (strcmp(program_invocation_short_name, "lister") == 0) {
+    if (strcmp(program_invocation_short_name, "lister") == 0 || strcmp(program_invocation_short_name, "doublelister") == 0) {
         of_read = getenv("SHIM_READ");
         of_write = getenv("SHIM_WRITE");
     }

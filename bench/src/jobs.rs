@@ -54,13 +54,34 @@ pub const JOBS: [Job; 4] = [
     Job {
         name: "lister",
         works: [
-            Some(|log, _| listed_by("target/bin/lister", log)),
-            Some(|log, _| listed_by("second/target/release/lister", log)),
+            Some(|log, _| written_by("target/bin/lister", log).len() as u64),
+            Some(|log, _| written_by("second/target/release/lister", log).len() as u64),
             None,
         ],
         starts: true,
     },
 ];
+
+/// The listers of a double line, as programs: the one job on its logs.
+pub const DOUBLE_LISTER: Job = Job {
+    name: "lister",
+    works: [
+        Some(|log, _| written_by(PROVED_DOUBLE_LISTER, log).len() as u64),
+        Some(|log, _| written_by(SECOND_DOUBLE_LISTER, log).len() as u64),
+        None,
+    ],
+    starts: true,
+};
+
+const PROVED_DOUBLE_LISTER: &str = "target/bin/doublelister";
+const SECOND_DOUBLE_LISTER: &str = "second/target/release/doublelister";
+
+/// The two listers of a double line write the same.
+pub fn assert_double_agreed(log: &[u8]) {
+    let listing = second::double::list(log);
+    assert!(written_by(PROVED_DOUBLE_LISTER, log) == *listing.as_bytes());
+    assert!(written_by(SECOND_DOUBLE_LISTER, log) == *listing.as_bytes());
+}
 
 /// A buffer with room for any listing by any program.
 pub fn buffer() -> Vec<u8> {
@@ -117,9 +138,9 @@ fn mixed(figures: [u64; FIGURES - 2]) -> u64 {
     figures.into_iter().fold(0, next)
 }
 
-/// A lister as a program: started, given the log, and waited for; the length of
-/// what it wrote.
-fn listed_by(program: &str, log: &[u8]) -> u64 {
+/// A lister as a program: started, given the log, and waited for; what it
+/// wrote.
+fn written_by(program: &str, log: &[u8]) -> Vec<u8> {
     let mut lister = Command::new(program)
         .stdin(Stdio::piped())
         .stdout(Stdio::piped())
@@ -130,5 +151,5 @@ fn listed_by(program: &str, log: &[u8]) -> u64 {
     input.write_all(log).expect("the lister reads");
     drop(input);
     let written = lister.wait_with_output().expect("the lister ends");
-    written.stdout.len() as u64
+    written.stdout
 }

@@ -1,5 +1,6 @@
 //! The logs on which the programs are measured.
 
+use second::double::generator as double;
 use second::generator::log;
 
 use crate::shared::sorts;
@@ -42,6 +43,42 @@ pub fn cases() -> [Case; 4] {
             title: "65,536 full section",
             log: log(1, LONGEST, full),
             times: 3,
+        },
+    ]
+}
+
+/// Logs of a double line, for the two listers of one.
+pub fn double_cases() -> [Case; 3] {
+    let whole = double::Options {
+        bytes: Some(LONGEST),
+        ..double::Options::default()
+    };
+    let accepted = double::Options {
+        accepted: true,
+        ..whole
+    };
+    let full = double::Options {
+        full: true,
+        ..whole
+    };
+    [
+        Case {
+            name: "double300",
+            title: "double, 300 entries",
+            log: double::log(1, 300, double::Options::default()),
+            times: 1,
+        },
+        Case {
+            name: "doubleaccepted",
+            title: "double, accepted",
+            log: double::log(1, LONGEST, accepted),
+            times: 1,
+        },
+        Case {
+            name: "doublefull",
+            title: "double, full lines",
+            log: double::log(1, LONGEST, full),
+            times: 1,
         },
     ]
 }

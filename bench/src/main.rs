@@ -12,11 +12,12 @@ use std::io::{self, Write};
 use std::process::ExitCode;
 
 use jobs::{buffer, Work, JOBS, PROGRAMS};
-use logs::cases;
+use logs::{cases, double_cases};
 use timing::time_all;
 
 const USAGE: &str = "usage: bench [ROUNDS]
        bench logs                         names of the logs, with their entries
+       bench double                       the same of the double line's logs
        bench log NAME                     writes that log
        bench count PROGRAM JOB LOG TIMES  does a job so many times on the log in a file";
 
@@ -41,8 +42,10 @@ fn called(words: &[&str]) -> Option<io::Result<()>> {
     match *words {
         [] => time_all(31),
         ["logs"] => print_logs(),
+        ["double"] => print_double_logs(),
         ["log", name] => {
-            let case = cases().into_iter().find(|case| case.name == name)?;
+            let mut all = cases().into_iter().chain(double_cases());
+            let case = all.find(|case| case.name == name)?;
             return Some(io::stdout().write_all(&case.log));
         }
         ["count", program, job, file, times] => {
@@ -58,6 +61,12 @@ fn called(words: &[&str]) -> Option<io::Result<()>> {
 fn print_logs() {
     for case in cases() {
         println!("{} {}", case.name, quick::run(&case.log)[0]);
+    }
+}
+
+fn print_double_logs() {
+    for case in double_cases() {
+        println!("{} {}", case.name, second::double::Run::of(&case.log).count());
     }
 }
 

@@ -3,8 +3,10 @@
 use std::hint::black_box;
 use std::time::{Duration, Instant};
 
-use crate::jobs::{assert_agreed, buffer, Job, Work, JOBS, PROGRAMS};
-use crate::logs::{cases, Case};
+use crate::jobs::{
+    assert_agreed, assert_double_agreed, buffer, Job, Work, DOUBLE_LISTER, JOBS, PROGRAMS,
+};
+use crate::logs::{cases, double_cases, Case};
 
 /// The fastest round, the median and the upper quartile of a program.
 type Times = [Duration; 3];
@@ -28,6 +30,11 @@ pub fn time_all(rounds: usize) {
             let times = measure(&case, job, rounds, &mut out);
             print_times([case.title, job.name], times);
         }
+    }
+    for case in double_cases() {
+        assert_double_agreed(&case.log);
+        let times = measure(&case, &DOUBLE_LISTER, rounds, &mut out);
+        print_times([case.title, DOUBLE_LISTER.name], times);
     }
 }
 

@@ -8,12 +8,13 @@ use Rattle.lupinshift.specs.Answers.{EndsTheListing, FiguresInTheEnd, fi
 use Rattle.lupinshift.specs.State.{Begins, Calls, CallsAreListing, FillsOn, NoneMore, OwnFromTheStart, fill, listingAt, no-more, stateWords}
 use Rattle.step.proofs.Whole.{blocks, none-left-over}
 use Rattle.step.specs.Blocks.{Blocks, block, none-left}
-use Rattle.step.specs.Lines.{blockOf}
+use Rattle.step.specs.Lines.{Listing, blockOf}
 use Rattle.step.specs.Listings.{figuresIn, joined, linesOf, listingOf}
-use Rattle.step.specs.declared.lines.Listing.{Listing}
 use Rattle.words.specs.Words.{Own, sectionIn, startIn, wordCount, wordsOf}
 use Rattle.working.specs.Sections.{fresh}
-use Rattle.working.specs.Turns.{turnsOf}
+use Rattle.working.specs.Turns.{single, turnsOf}
+use Rattle.working.specs.declared.Section.{Section}
+use Rattle.working.specs.declared.Table.the-variants.{SingleLine}
 use borrow.Author.Tests.{le-ltb}
 use lib.Dec.{ltb}
 use lib.ListN.{drop, length, take}
@@ -30,24 +31,23 @@ enough words h = le-ltb (length words) stateWords h
 
 -- a call's text is that of a block, and the words after it stand for where the block ended
 call-text : {words log out words₁ out₁ : List ℕ} {r : ℕ} → stateWords ≤ length words → FillsOn words log out r words₁ out₁
-    → take r out₁ ≡ blockOf log (listingAt words) (length out) .text
+    → take r out₁ ≡ blockOf SingleLine log (listingAt words) (length out) .text
 call-text {words} {log} {out} h f =
-    let text : List ℕ = blockOf log (listingAt words) (length out) .text in
+    let text : List ℕ = blockOf SingleLine log (listingAt words) (length out) .text in
     rw (f .fills (enough words h) .left) (take-at text (drop (0 + length text) out) _ (sym (f .fills (enough words h) .count)))
 
-all-calls : {log words text : List ℕ} → Calls log words text → Blocks log (listingAt words) text
+all-calls : {log words text : List ℕ} → Calls log words text → Blocks SingleLine log (listingAt words) text
 all-calls (no-more e) = none-left e
 all-calls (fill {log} {words} {out} {words₁} {out₁} {more} {r} h f rest) =
-    let l : Listing = listingAt words in
-    rw (call-text h f) (block (length out) (subst (λ (k : Listing). Blocks log k more) (f .fills (enough words h) .state .listing) (all-calls rest)))
+    rw (call-text h f) (block (length out) (subst (λ (k : Listing Section). Blocks SingleLine log k more) (f .fills (enough words h) .state .listing) (all-calls rest)))
 
 pub calls : CallsAreListing
 calls log words words₁ text r short h began all =
-    blocks log text short (subst (λ (k : Listing). Blocks log k text) (began .begins (enough words h) .state .listing) (all-calls all))
+    blocks SingleLine log text short (subst (λ (k : Listing Section). Blocks SingleLine log k text) (began .begins (enough words h) .state .listing) (all-calls all))
 
 pub none-more : NoneMore
 none-more words log out words₁ out₁ h room f =
-    none-left-over log (listingAt words) (length out) room (by (blockOf log (listingAt words) (length out) .text) (f .fills (enough words h) .count))
+    none-left-over SingleLine log (listingAt words) (length out) room (by (blockOf SingleLine log (listingAt words) (length out) .text) (f .fills (enough words h) .count))
   where
     by : (text : List ℕ) → 0 ≡ length text → text ≡ []
     by [] e = refl
@@ -59,7 +59,7 @@ own-begun : (log words words₁ : List ℕ) (r : ℕ) → stateWords ≤ length 
 unfolding listingAt wordsOf
 own-begun log words words₁ r h began =
     let b = began .begins (enough words h) in
-    let section : sectionIn (take wordCount words₁) ≡ fresh = ap (λ (l : Listing). l .section) (b .state .listing) in
+    let section : sectionIn (take wordCount words₁) ≡ fresh = ap (λ (l : Listing Section). l .section) (b .state .listing) in
     let start : startIn (take wordCount words₁) ≡ 0 = ap startIn (b .own) in
     b .own ∙ sym (ap₂ wordsOf section start)
 
@@ -68,7 +68,7 @@ own-from-the-start = (
   own-begun,
   λ words log out words₁ out₁ r h f own.
       let b = f .fills (enough words h) .section in
-      b .own own ∙ sym (ap₂ wordsOf (b .section) (b .start)),
+      b .ring .own own ∙ sym (ap₂ wordsOf (b .section) (b .ring .start)),
 )
 
 -- ---- the last line
@@ -77,8 +77,9 @@ pub ends-the-listing : EndsTheListing
 unfolding listingOf
 ends-the-listing log = by (ltb longestLog (length log))
   where
-    by : (b : Bool) → joined (linesOf 0 (cond b [] (turnsOf fresh log))) ++ cond b longLine (endLine (figuresIn fresh (cond b [] (turnsOf fresh log))))
-        ≡ joined (linesOf 0 (cond b [] (turnsOf fresh log))) ++ cond b longLine (endLine (figuresOf log))
+    by : (b : Bool) → joined (linesOf 0 (cond b [] (turnsOf single fresh log)))
+        ++ cond b longLine (endLine (figuresIn SingleLine fresh (cond b [] (turnsOf single fresh log))))
+        ≡ joined (linesOf 0 (cond b [] (turnsOf single fresh log))) ++ cond b longLine (endLine (figuresOf log))
     by true = refl
     by false = refl
 

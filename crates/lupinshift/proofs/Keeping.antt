@@ -5,12 +5,13 @@
 use Prim.Native.Nat.{_+_, _<_, _≤_, ℕ}
 use Rattle.lupinshift.specs.State.{Begins, FillsOn, Keeps, figureWords, listedAt, listingAt, stateWords}
 use Rattle.step.specs.Lines.{FillsWords, startOf}
-use Rattle.step.specs.declared.lines.Listed.{Listed}
-use Rattle.step.specs.declared.lines.Put.{Put}
+use Rattle.step.specs.declared.next_line.Listed.{Listed}
+use Rattle.step.specs.declared.next_line.Put.{Put}
 use Rattle.words.specs.Words.{OwnWords, wordCount}
 use Rattle.working.specs.Entries.{pasted}
 use Rattle.working.specs.Sections.{fresh}
 use Rattle.working.specs.WellMade.{oneIf}
+use Rattle.working.specs.declared.Table.the-variants.{SingleLine}
 use borrow.Author.Tests.{ltb-false, ltb-true}
 use lib.Dec.{eqb}
 use lib.ListN.{drop, getD, length, length-append, length-drop, set, take}
@@ -92,8 +93,8 @@ begins {words = words} enough own k = record {
 pub fills-none : {words log out : List ℕ} → length words < stateWords → FillsOn words log out 0 words out
 fills-none {words} few = record { short = λ e. (refl, refl, refl); fills = λ e. absurd (omega (arith, ltb-false (length words) stateWords e)) }
 
-pub fills : {words log out section words₁ out₁ : List ℕ} {r : Put} → stateWords ≤ length words → FillsWords log (take wordCount words) (listedAt words) out r section out₁
-    → Keeps section (r .listed) words words₁ → FillsOn words log out (r .behind) words₁ out₁
+pub fills : {words log out section words₁ out₁ : List ℕ} {r : Put} → stateWords ≤ length words
+    → FillsWords SingleLine log (take wordCount words) (listedAt words) out r section out₁ → Keeps section (r .listed) words words₁ → FillsOn words log out (r .behind) words₁ out₁
 unfolding listingAt
 fills {words} enough f k = record {
   short = λ e. absurd (omega (arith, ltb-true (length words) stateWords e));

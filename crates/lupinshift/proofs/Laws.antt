@@ -6,14 +6,15 @@ use Rattle.listing.specs.LineText.{PutsLine, endFigures, lastLine, longestLine}
 use Rattle.lupinshift.specs.Answers.{Ends, Gives, Lists, lastLineOf}
 use Rattle.step.proofs.Room.{listing-fits}
 use Rattle.step.proofs.Whole.{room-for-all}
-use Rattle.step.specs.Lines.{FillsIn, begun, largestCount}
+use Rattle.step.specs.Lines.{FillsIn, Listing, begun, largestCount}
 use Rattle.step.specs.Listings.{listingRoom}
 use Rattle.step.specs.Running.{endOver}
-use Rattle.step.specs.declared.lines.Listing.{Listing}
 use Rattle.step.specs.declared.running.LogEnd.{LogEnd}
 use Rattle.working.specs.Entries.{pasted}
 use Rattle.working.specs.Sections.{fresh}
-use Rattle.working.specs.Turns.{turnsOf}
+use Rattle.working.specs.Turns.{single, turnsOf}
+use Rattle.working.specs.declared.Section.{Section}
+use Rattle.working.specs.declared.Table.the-variants.{SingleLine}
 use borrow.Author.Tests.{le-leb, le-ltb, lt-leb, ltb-false, ltb-true}
 use lib.Dec.{ltb}
 use lib.ListN.{length}
@@ -31,14 +32,14 @@ pub gives : {refused : Bool} {given buffer after : List ℕ} {r : ℕ} → refus
 gives e count left = record { count = rw e count; left = rw e left }
 
 -- a buffer that was filled once, from the start, and has the room
-pub lists : {log out after : List ℕ} {count : ℕ} {l : Listing} → length log < largestCount → listingRoom (length log) ≤ length out → FillsIn log (begun log) out count l after
-    → Lists log out count after
+pub lists : {log out after : List ℕ} {count : ℕ} {l : Listing Section} → length log < largestCount → listingRoom (length log) ≤ length out
+    → FillsIn SingleLine log (begun SingleLine log) out count l after → Lists log out count after
 lists {log} {out} short room f =
-    let whole = room-for-all log (length out) short (omega (arith, listing-fits log)) .0 in
+    let whole = room-for-all SingleLine log (length out) short (omega (arith, listing-fits log)) .0 in
     gives (le-ltb _ _ room) (f .counted ∙ ap length whole) (f .left ∙ ap (pasted out 0) whole)
 
 -- the last line of a run put at the front of a buffer, or not
-pub ends : (log : List ℕ) {out after : List ℕ} {r : LogEnd} {behind : ℕ} → r ≡ endOver fresh (turnsOf fresh log)
+pub ends : (log : List ℕ) {out after : List ℕ} {r : LogEnd} {behind : ℕ} → r ≡ endOver fresh (turnsOf single fresh log)
     → PutsLine out 0 (lastLine (length log) (endFigures (r .entries) (r .accepted) (r .section))) behind after → Ends log out behind after
 ends log {out} {after} {r} {behind} e put = by (ltb (length out) longestLine) refl
   where

@@ -1,4 +1,4 @@
--- What a host is answered, and what its buffers then hold, by the definitions of the listing and of a log's turns.
+-- What a host is answered, and what its buffers then hold, by the definitions of a single line's listing and of a log's turns.
 use Prim.Native.Nat.{_≤_, ℕ}
 use Rattle.listing.specs.LineText.{endFigureCount, endLine, lastLine, longestLine, longestLog}
 use Rattle.step.specs.Listings.{figuresIn, joined, linesOf, listedTurns, listingOf, listingRoom}
@@ -8,9 +8,10 @@ use Rattle.step.specs.declared.running.Last.{Last}
 use Rattle.working.specs.Entries.{pasted}
 use Rattle.working.specs.Refusals.{numberOf}
 use Rattle.working.specs.Sections.{fresh}
-use Rattle.working.specs.Turns.{turnsOf}
+use Rattle.working.specs.Turns.{single, turnsOf}
 use Rattle.working.specs.declared.Answer.the-variants as answer
 use Rattle.working.specs.declared.Answer.{Answer}
+use Rattle.working.specs.declared.Table.the-variants.{SingleLine}
 use lib.Dec.{ltb}
 use lib.ListN.{length}
 use mathlib.Core.Bool.{Bool, _||_, cond}
@@ -28,11 +29,11 @@ pub record Gives (refused : Bool) (given buffer : List ℕ) (r : ℕ) (after : L
 
 -- the whole listing, where the buffer has the room of any log of that length
 abbrev pub Lists : List ℕ → List ℕ → ℕ → List ℕ → Type 0
-Lists log out = Gives (ltb (length out) (listingRoom (length log))) (listingOf log) out
+Lists log out = Gives (ltb (length out) (listingRoom (length log))) (listingOf SingleLine log) out
 
 -- the figures of a log's last line
 abbrev pub figuresOf : List ℕ → List ℕ
-figuresOf log = figuresIn fresh (turnsOf fresh log)
+figuresOf log = figuresIn SingleLine fresh (turnsOf single fresh log)
 
 -- the last line of its listing
 abbrev pub lastLineOf : List ℕ → List ℕ
@@ -48,7 +49,7 @@ Figures log figures = Gives (ltb longestLog (length log) || ltb (length figures)
 
 -- the last line and the figures are those of the listing: it ends in the one, whatever the log's length, and that is `end` and the others where the log is not too long
 abbrev pub EndsTheListing : Type 0
-EndsTheListing = (log : List ℕ) → listingOf log ≡ joined (linesOf 0 (listedTurns log)) ++ lastLineOf log
+EndsTheListing = (log : List ℕ) → listingOf SingleLine log ≡ joined (linesOf 0 (listedTurns SingleLine log)) ++ lastLineOf log
 
 abbrev pub FiguresInTheEnd : Type 0
 FiguresInTheEnd = (log : List ℕ) → length log ≤ longestLog → lastLineOf log ≡ endLine (figuresOf log)
@@ -67,4 +68,4 @@ lastOf (Answered a) = refusalOf a
 
 -- the number that answers a log's last entry
 abbrev pub answerOf : List ℕ → ℕ
-answerOf log = lastOf (lastIn NoEntry (turnsOf fresh log))
+answerOf log = lastOf (lastIn NoEntry (turnsOf single fresh log))

@@ -1,14 +1,16 @@
--- Where a listing stands, in words that a host lends: what listing they stand for, of any words, and what the functions on them leave.
+-- Where a single line's listing stands, in words that a host lends: what listing they stand for, of any words, and what the functions on them leave.
 use Prim.Native.Nat.{_+_, _<_, _≤_, ℕ}
 use Rattle.listing.specs.LineText.{longestLine}
-use Rattle.step.specs.Lines.{BecomeBehind, Portion, begun, blockOf, largestCount, listedOf, listingIn}
+use Rattle.step.specs.Lines.{Listing, Portion, begun, blockOf, largestCount, listedOf, listingIn}
 use Rattle.step.specs.Listings.{listingOf}
-use Rattle.step.specs.declared.lines.Listed.{Listed}
-use Rattle.step.specs.declared.lines.Listing.{Listing}
+use Rattle.step.specs.Tables.{Behind}
+use Rattle.step.specs.declared.next_line.Listed.{Listed}
 use Rattle.words.specs.Words.{Own, sectionIn, wordCount, wordsOf}
 use Rattle.working.specs.Entries.{pasted}
 use Rattle.working.specs.Sections.{fresh}
 use Rattle.working.specs.WellMade.{oneIf, wellMade}
+use Rattle.working.specs.declared.Section.{Section}
+use Rattle.working.specs.declared.Table.the-variants.{SingleLine}
 use lib.Dec.{eqb, ltb}
 use lib.ListN.{drop, getD, length, take}
 use mathlib.Core.Bool.{false, true}
@@ -28,7 +30,7 @@ listedAt words = record {
   ended = eqb (getD words (wordCount + 4) 0) 1;
 }
 
-unfoldable pub listingAt : List ℕ → Listing
+unfoldable pub listingAt : List ℕ → Listing Section
 listingAt words = listingIn (listedAt words) (sectionIn (take wordCount words))
 
 -- the five behind the section's words
@@ -36,7 +38,7 @@ abbrev pub figureWords : Listed → List ℕ
 figureWords p = p .at ∷ p .left ∷ p .entries ∷ p .accepted ∷ oneIf (p .ended) ∷ []
 
 -- words that now stand for a listing, as many as before: behind the section's the five are the listing's figures, and those behind keep their values
-pub record Holds (l : Listing) (words after : List ℕ) : Type 0 where
+pub record Holds (l : Listing Section) (words after : List ℕ) : Type 0 where
   pub listing : listingAt after ≡ l
   pub figures : drop wordCount after ≡ figureWords (listedOf l) ++ drop stateWords words
   pub size : length after ≡ length words
@@ -49,7 +51,7 @@ pub record Keeps (section : List ℕ) (p : Listed) (words after : List ℕ) : Ty
 -- the start of a log's listing, in the fresh section's own words, and how many it takes
 pub record BeginsIn (log words : List ℕ) (r : ℕ) (after : List ℕ) : Type 0 where
   pub count : r ≡ stateWords
-  pub state : Holds (begun log) words after
+  pub state : Holds (begun SingleLine log) words after
   pub own : take wordCount after ≡ wordsOf fresh 0
 
 -- or, where there are fewer, 0 and nothing altered
@@ -58,8 +60,8 @@ pub record Begins (log words : List ℕ) (r : ℕ) (after : List ℕ) : Type 0 w
   pub begins : ltb (length words) stateWords ≡ false → BeginsIn log words r after
 
 -- the block that comes next, from where the words say that the listing stands
-abbrev pub blockAt : List ℕ → List ℕ → ℕ → Portion
-blockAt words log room = blockOf log (listingAt words) room
+abbrev pub blockAt : List ℕ → List ℕ → ℕ → Portion Section
+blockAt words log room = blockOf SingleLine log (listingAt words) room
 
 -- that block: its text at the front of the buffer, the bytes behind which keep their values, and its length; the words then stand for where the listing goes on. The section's
 -- become those of the section there, and its own where they were a section's own; where it is not well made they stay as they were.
@@ -67,7 +69,7 @@ pub record FillsFrom (words log out : List ℕ) (r : ℕ) (words₁ out₁ : Lis
   pub count : r ≡ length (blockAt words log (length out) .text)
   pub left : out₁ ≡ pasted out 0 (blockAt words log (length out) .text)
   pub state : Holds (blockAt words log (length out) .listing) words words₁
-  pub section : BecomeBehind (take wordCount words) (blockAt words log (length out)) (take wordCount words₁)
+  pub section : Behind SingleLine (take wordCount words) (blockAt words log (length out) .turns) (take wordCount words₁)
   pub kept : wellMade (listingAt words .section) ≡ false → take wordCount words₁ ≡ take wordCount words
 
 -- or, where there are too few words, 0 and nothing altered
@@ -86,7 +88,7 @@ pub data Calls : List ℕ → List ℕ → List ℕ → Type 0 where
 -- from a start in enough words they are together the listing of the log
 abbrev pub CallsAreListing : Type 0
 CallsAreListing = (log words words₁ text : List ℕ) (r : ℕ) → length log < largestCount → stateWords ≤ length words
-    → Begins log words r words₁ → Calls log words₁ text → text ≡ listingOf log
+    → Begins log words r words₁ → Calls log words₁ text → text ≡ listingOf SingleLine log
 
 -- a call with enough words and room for a line answers 0 only where the listing has ended
 abbrev pub NoneMore : Type 0

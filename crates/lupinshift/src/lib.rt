@@ -1,10 +1,11 @@
-// Functions for a host in C or Rust: a log's listing, whole or in blocks, its last line alone, as text and as figures, the answer to its last entry, and how many of its
-// entries are taken. Slices of bytes and numbers only; host/lupinshift.h declares them. Where a call is refused the answer is 0, and no lent place is altered.
+// Functions for a host in C or Rust, on a single line's log: its listing, whole or in blocks, its last line alone, as text and as figures, the answer to its last entry,
+// and how many of its entries are taken. Slices of bytes and numbers only; host/lupinshift.h declares them. Where a call is refused the answer is 0, and no lent place is
+// altered.
 ghost use Rattle.lupinshift.specs.Answers.{Ends, Figures, Lists, answerOf, lastOf, refusalOf};
 ghost use Rattle.lupinshift.specs.State.{Begins, FillsOn};
 ghost use Rattle.step.specs.Listings.{listingRoom};
 ghost use Rattle.working.specs.Sections.{fresh};
-ghost use Rattle.working.specs.Turns.{takenIn, turnsOf};
+ghost use Rattle.working.specs.Turns.{single, takenIn, turnsOf};
 ghost use mathlib.Core.Path.{_≡_};
 
 mod state;
@@ -21,6 +22,7 @@ use listing::end_figures;
 use step::Last;
 use words::fresh_words;
 use working::Answer;
+use working::Table;
 
 // The room that the listing of any log of so many bytes takes, and the longest line more: at most a line of 25 bytes for each byte, and the last line.
 fn listing_room(len: usize) -> usize
@@ -41,7 +43,7 @@ pub extern "C" fn lupin_list(log: &[u8], out: &mut [u8]) -> usize
     if out.len() < listing_room(log.len()) {
         return 0;
     }
-    step::list(log, out)
+    step::list(Table::SingleLine, log, out)
 }
 
 // The start of a log's listing in the words lent, and how many it takes, `STATE_WORDS`. The words behind them keep their values.
@@ -69,7 +71,7 @@ pub extern "C" fn lupin_fill(words: &mut [u64], log: &[u8], out: &mut [u8]) -> u
         return 0;
     }
     let mut section = section_words(words);
-    let put = step::fill_words(&mut section, listed_at(words), log, out);
+    let put = step::fill(Table::SingleLine, &mut section, listed_at(words), log, out);
     let listed = put.listed;
     keep(words, &section, listed);
     put.behind
@@ -142,7 +144,7 @@ pub extern "C" fn lupin_answer(log: &[u8]) -> u32
 // How many entries of a log are taken by its reader: whole, of a known kind, with the right map and the fields in range. A log of any length is read.
 #[no_mangle]
 pub extern "C" fn lupin_taken(log: &[u8]) -> usize
-    ensures { λ r. ⌜ r ≡ takenIn (turnsOf fresh (now (log .entry))) ⌝ }
+    ensures { λ r. ⌜ r ≡ takenIn (turnsOf single fresh (now (log .entry))) ⌝ }
 {
     step::taken(log)
 }

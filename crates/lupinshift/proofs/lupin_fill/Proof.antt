@@ -17,7 +17,7 @@ returns-2 c =
     let filled = wrote .before .before .before in
     let listed = filled .before .before in
     let section = listed .before .before .before in
-    fills (section .before .before .if1 .left) (rw (listed .listed-at .ensures, section .section-words .ensures) at (filled .fill-words .ensures)) (keep .keep .ensures)
+    fills (section .before .before .if1 .left) (rw (listed .listed-at .ensures, section .section-words .ensures) at (filled .fill .ensures)) (keep .keep .ensures)
 
 pub lupin-fill-spec : {M : Type 1} → statement M
 lupin-fill-spec =

@@ -21,7 +21,6 @@ pub use orders::train_speed;
 pub use orders::vehicle_for;
 pub use reasons::begin_verdict;
 pub use reasons::departure_verdict;
-pub use reasons::last_verdict;
 pub use reasons::open_verdict;
 pub use reasons::receive_verdict;
 pub use reasons::resume_verdict;

@@ -39,7 +39,7 @@ pub fn station_verdict(force: bool, clock: u16, time: u16) -> Verdict
 }
 
 // 17 to 19, which every departure is put to last, by how many count: of a single line the departures, of a double line the trains on its line.
-pub fn last_verdict(counted: u8, last: u16, interval: Interval, time: u16) -> Verdict
+fn last_verdict(counted: u8, last: u16, interval: Interval, time: u16) -> Verdict
     ensures { λ r. ⌜ r ≡ firstOf (lastTests counted last interval time) ⌝ }
 {
     if Desk::MOST_SENT <= counted {

@@ -171,17 +171,17 @@ pub fn put_receipt(words: &mut Words, at: Station, time: u16, sent: u8)
 }
 
 // The minute of the last entry alone.
-pub fn put_clock(words: &mut Words, at: Station, time: u16)
-    ensures { λ _. ⌜ DeskBecomes (now (words .entry)) (now (words .exit)) at (withClock time) × RingKept (now (words .entry)) (now (words .exit)) ⌝ }
+pub fn put_clock(words: &mut Words, at: Station, minute: u16)
+    ensures { λ _. ⌜ DeskBecomes (now (words .entry)) (now (words .exit)) at (withClock minute) × RingKept (now (words .entry)) (now (words .exit)) ⌝ }
 {
-    put(words, at, CLOCK, time as u64);
+    put(words, at, CLOCK, minute as u64);
 }
 
-// The departures counted alone.
-pub fn put_sent(words: &mut Words, at: Station, sent: u8)
-    ensures { λ _. ⌜ DeskBecomes (now (words .entry)) (now (words .exit)) at (withSent sent) × RingKept (now (words .entry)) (now (words .exit)) ⌝ }
+// The departures counted alone; of a double line, how many trains are on the station's line.
+pub fn put_sent(words: &mut Words, at: Station, count: u8)
+    ensures { λ _. ⌜ DeskBecomes (now (words .entry)) (now (words .exit)) at (withSent count) × RingKept (now (words .entry)) (now (words .exit)) ⌝ }
 {
-    put(words, at, SENT, sent as u64);
+    put(words, at, SENT, count as u64);
 }
 
 // Whether the station's own opener is away.

@@ -13,8 +13,8 @@ use native.Mathlib.Omega.{arith}
 returns : tie.Need-returns
 returns c =
     let a = c .before .before .args in
-    let time : a .time % 65536 ≡ a .time = mod-eq-of-lt (omega arith) in
-    (desk-becomes (withClock (a .time)) (c .put .ensures) (rw time) (λ d. refl), ring-kept (c .put .ensures))
+    let minute : a .minute % 65536 ≡ a .minute = mod-eq-of-lt (omega arith) in
+    (desk-becomes (withClock (a .minute)) (c .put .ensures) (rw minute) (λ d. refl), ring-kept (c .put .ensures))
 
 pub put-clock-spec : {M : Type 1} → statement M
 put-clock-spec = tie.close (tie.spec (λ c κs. search needs) returns)

@@ -13,8 +13,8 @@ use native.Mathlib.Omega.{arith}
 returns : tie.Need-returns
 returns c =
     let a = c .before .before .args in
-    let sent : a .sent % 256 ≡ a .sent = mod-eq-of-lt (omega arith) in
-    (desk-becomes (withSent (a .sent)) (c .put .ensures) (rw sent) (λ d. refl), ring-kept (c .put .ensures))
+    let count : a .count % 256 ≡ a .count = mod-eq-of-lt (omega arith) in
+    (desk-becomes (withSent (a .count)) (c .put .ensures) (rw count) (λ d. refl), ring-kept (c .put .ensures))
 
 pub put-sent-spec : {M : Type 1} → statement M
 put-sent-spec = tie.close (tie.spec (λ c κs. search needs) returns)

@@ -46,8 +46,8 @@ fn head_length(kind: u8) -> usize
     match kind {
         1 => 2,
         2 => LONGEST_HEAD,
-        3 => 16,
-        4 => 4,
+        3 | 5 => 16,
+        4 | 6 => 4,
         _ => 0,
     }
 }

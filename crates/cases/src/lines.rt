@@ -2,15 +2,16 @@
 ghost use Prim.Native.Nat.{_≤_};
 ghost use lib.ListN.{length};
 use crate::sections::digest;
-use crate::sections::figures_of;
 use crate::sections::places_used;
 use crate::text::front;
 use crate::text::write;
 use crate::text::write_bytes;
+use crate::text::write_digits;
 use crate::text::write_figure;
 use crate::text::write_number;
 use crate::text::write_numbers;
 use figures::PRESENT;
+use figures::section_figures;
 use working::Answer;
 use working::Entry;
 use working::Read;
@@ -42,6 +43,14 @@ fn write_speed(speed: Speed) {
         Speed::Walking => write(b" W"),
         Speed::Kmh(kmh) => write_number(kmh as u64),
         Speed::Booked => write(b" B"),
+        Speed::Both {
+            straight,
+            elsewhere,
+        } => {
+            write_number(straight as u64);
+            write(b"/");
+            write_digits(elsewhere as u64);
+        }
     }
 }
 
@@ -105,7 +114,7 @@ pub(crate) fn write_stepped(word: &[u8], after: Stepped) {
     let answer = after.answer;
     write(word);
     write_answer(answer);
-    write_number(digest(&figures_of(s)));
+    write_number(digest(&section_figures(s)));
     write(b"\n");
 }
 
@@ -119,7 +128,7 @@ fn write_figures(figures: &[u8], used: usize)
 
 // A word and a section's figures, without the unused places behind the last in use.
 pub(crate) fn write_section(word: &[u8], s: Section) {
-    let figures = figures_of(s);
+    let figures = section_figures(s);
     let used = places_used(&figures);
     write(word);
     write(b" ");

@@ -11,6 +11,7 @@ use input::read_case;
 use logs::run_log;
 use logs::run_position;
 use steps::run_step;
+use working::Table;
 use written::run_write;
 
 mod input;
@@ -23,6 +24,15 @@ mod steps;
 mod text;
 mod written;
 
+// The table of a case: 5 and 6 go by the double line's, the others by the single line's.
+fn table_of(kind: u8) -> Table {
+    if kind < 5 {
+        Table::SingleLine
+    } else {
+        Table::DoubleLine
+    }
+}
+
 // Runs a case of which the head and the bytes were read.
 fn run_case(kind: u8, head: &Head, bytes: &mut [u8])
     requires { ⌜ length (now bytes) ≤ 4096 ⌝ }
@@ -30,8 +40,13 @@ fn run_case(kind: u8, head: &Head, bytes: &mut [u8])
     match kind {
         1 => run_log(bytes),
         2 => run_step(section_in(head), bytes),
-        3 => run_write(bytes, number_at(head, 12) as usize, entry_in(head)),
-        _ => run_position(number_at(head, 0) as usize, bytes),
+        3 | 5 => run_write(
+            table_of(kind),
+            bytes,
+            number_at(head, 12) as usize,
+            entry_in(head),
+        ),
+        _ => run_position(table_of(kind), number_at(head, 0) as usize, bytes),
     }
 }
 

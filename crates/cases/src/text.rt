@@ -9,10 +9,15 @@ pub(crate) fn write(word: &[u8]) {
     io::write_all(STDOUT_FILENO, word);
 }
 
-// A blank and a number in decimal digits.
+// A number in decimal digits.
+pub(crate) fn write_digits(n: u64) {
+    io::print_decimal(STDOUT_FILENO, n);
+}
+
+// A blank and a number.
 pub(crate) fn write_number(n: u64) {
     write(b" ");
-    io::print_decimal(STDOUT_FILENO, n);
+    write_digits(n);
 }
 
 // Numbers one behind the other.

@@ -53,10 +53,14 @@ vehicleAt figures at = record {
   class = byteAt figures (at + 8);
 }
 
--- so many places, one behind another
-unfoldable pub placesAt : ℕ → List ℕ → ℕ → List Vehicle
-placesAt zero figures at = []
-placesAt (suc count) figures at = vehicleAt figures at ∷ placesAt count figures (at + 10)
+-- so many places of the same size, one behind another, each as it is read
+unfoldable pub eachAt : {A : Type 0} → (ℕ → A) → ℕ → ℕ → ℕ → List A
+eachAt read size zero at = []
+eachAt read size (suc count) at = read at ∷ eachAt read size count (at + size)
+
+-- "24 × 10"
+abbrev pub placesIn : List ℕ → List Vehicle
+placesIn figures = eachAt (vehicleAt figures) 10 24 0
 
 -- "interval running 1 (0 or 1), its minute 2"
 abbrev pub intervalOf : ℕ → ℕ → Interval
@@ -81,7 +85,7 @@ countsAt figures at = record { a = wideAt figures at; b = wideAt figures (at + 4
 -- the bytes of a section
 abbrev pub sectionIn : List ℕ → Section
 sectionIn figures = record {
-  vehicles = placesAt 24 figures 0;
+  vehicles = placesIn figures;
   len = byteAt figures 240;
   force = eqb (byteAt figures 241) 1;
   refused = countsAt figures 242;

@@ -1,1 +1,3 @@
+pub mod Doubles
 pub mod Figures
+pub mod Written

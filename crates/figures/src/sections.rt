@@ -1,6 +1,6 @@
 // A section and an entry in figures: the bytes of docs/CASES.md, at the front of a case's head.
 ghost use Prim.Native.Nat.{_*_, _+_, _≤_};
-ghost use Rattle.figures.specs.Figures.{clearsAt, countsAt, deskAt, entryIn, intervalOf, longestHead, movementOf, placesAt, sectionIn, vehicleAt, wideAt};
+ghost use Rattle.figures.specs.Figures.{clearsAt, countsAt, deskAt, entryIn, intervalOf, longestHead, movementOf, placesIn, sectionIn, vehicleAt, wideAt};
 ghost use mathlib.Core.Path.{_≡_};
 use crate::heads::Head;
 use crate::heads::number_at;
@@ -71,7 +71,7 @@ fn vehicle_in(figures: &Head, at: usize) -> Vehicle
 
 // The 24 places.
 fn vehicles_in(figures: &Head) -> [Vehicle; Section::PLACES]
-    ensures { λ r. ⌜ r ≡ placesAt 24 (now (figures .entry)) 0 ⌝ }
+    ensures { λ r. ⌜ r ≡ placesIn (now (figures .entry)) ⌝ }
 {
     let mut places = [Vehicle::unused(); Section::PLACES];
     let mut i = 0;
@@ -82,7 +82,7 @@ fn vehicles_in(figures: &Head) -> [Vehicle; Section::PLACES]
     places
 }
 
-fn interval_in(running: u8, minute: u16) -> Interval
+pub(crate) fn interval_in(running: u8, minute: u16) -> Interval
     ensures { λ r. ⌜ r ≡ intervalOf running minute ⌝ }
 {
     if running == 1 {
@@ -133,13 +133,14 @@ fn count_in(figures: &Head, at: usize) -> u32
 }
 
 // Entries refused for A, for B, and of no station.
-fn counts_in(figures: &Head) -> Counts
-    ensures { λ r. ⌜ r ≡ countsAt (now (figures .entry)) 242 ⌝ }
+pub(crate) fn counts_in(figures: &Head, at: usize) -> Counts
+    requires { ⌜ at + 12 ≤ longestHead ⌝ }
+    ensures { λ r. ⌜ r ≡ countsAt (now (figures .entry)) at ⌝ }
 {
     Counts {
-        a: count_in(figures, REFUSED),
-        b: count_in(figures, REFUSED + 4),
-        none: count_in(figures, REFUSED + 8),
+        a: count_in(figures, at),
+        b: count_in(figures, at + 4),
+        none: count_in(figures, at + 8),
     }
 }
 
@@ -158,7 +159,7 @@ pub fn section_in(figures: &Head) -> Section
         vehicles: vehicles_in(figures),
         len: count_of(figures[PRESENT]),
         force: figures[FORCE] == 1,
-        refused: counts_in(figures),
+        refused: counts_in(figures, REFUSED),
         a: desk_in(figures, DESK_A, Desk::fresh()),
         b: desk_in(figures, DESK_B, Desk::fresh()),
     }

@@ -22,7 +22,6 @@ use listing::end_figures;
 use step::Last;
 use words::fresh_words;
 use working::Answer;
-use working::Table;
 
 // The room that the listing of any log of so many bytes takes, and the longest line more: at most a line of 25 bytes for each byte, and the last line.
 fn listing_room(len: usize) -> usize
@@ -43,7 +42,7 @@ pub extern "C" fn lupin_list(log: &[u8], out: &mut [u8]) -> usize
     if out.len() < listing_room(log.len()) {
         return 0;
     }
-    step::list(Table::SingleLine, log, out)
+    step::list(log, out)
 }
 
 // The start of a log's listing in the words lent, and how many it takes, `STATE_WORDS`. The words behind them keep their values.
@@ -71,7 +70,7 @@ pub extern "C" fn lupin_fill(words: &mut [u64], log: &[u8], out: &mut [u8]) -> u
         return 0;
     }
     let mut section = section_words(words);
-    let put = step::fill(Table::SingleLine, &mut section, listed_at(words), log, out);
+    let put = step::fill(&mut section, listed_at(words), log, out);
     let listed = put.listed;
     keep(words, &section, listed);
     put.behind

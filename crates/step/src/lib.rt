@@ -10,6 +10,8 @@ mod running;
 mod stepping;
 mod tables;
 
+pub use blocks::double_fill;
+pub use blocks::double_list;
 pub use blocks::fill;
 pub use blocks::list;
 pub use double_memory::double_step_in_place;

@@ -7,7 +7,6 @@ ghost use lib.ListN.{length};
 ghost use mathlib.Core.Path.{_≡_};
 use libc::STDIN_FILENO;
 use libc::STDOUT_FILENO;
-use working::Table;
 
 // Room for the longest log and a byte more, which tells a longer one.
 const ROOM: usize = 65537;
@@ -27,24 +26,26 @@ fn packed_length(head: [u8; 4]) -> usize
     if length < ROOM { length } else { ROOM }
 }
 
-// The table that a byte says.
-fn packed_table(first: u8) -> Table {
-    if first == 2 {
-        return Table::DoubleLine;
+// Puts the listing of a log, a double line's or a single line's, into the block, and gives its length.
+fn put_listing(double: bool, log: &[u8], block: &mut [u8]) -> usize
+    ensures { λ r. ⌜ r ≤ length (now (block .entry)) ⌝ }
+{
+    if double {
+        return step::double_list(log, block);
     }
-    Table::SingleLine
+    step::list(log, block)
 }
 
 // Writes the listing of a log in one block, which has room for the longest of the logs stored; the listers write in many.
-fn list(table: Table, log: &[u8], block: &mut [u8]) {
-    let count = step::list(table, log, block);
+fn list(double: bool, log: &[u8], block: &mut [u8]) {
+    let count = put_listing(double, log, block);
     io::write_all(STDOUT_FILENO, &block[..count]);
 }
 
 // Fills the log lent from standard input and lists what was read.
-fn list_read(table: Table, log: &mut [u8], block: &mut [u8]) {
+fn list_read(double: bool, log: &mut [u8], block: &mut [u8]) {
     let read = io::read_full(STDIN_FILENO, log);
-    list(table, &log[..read], block);
+    list(double, &log[..read], block);
 }
 
 // Lists one log, read into the room lent; says whether there was one.
@@ -58,7 +59,7 @@ fn list_next(room: &mut [u8], block: &mut [u8]) -> bool
         return false;
     }
     let length = packed_length(head);
-    list_read(packed_table(first[0]), &mut room[..length], block);
+    list_read(first[0] == 2, &mut room[..length], block);
     true
 }
 

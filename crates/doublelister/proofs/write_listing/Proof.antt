@@ -23,7 +23,7 @@ abbrev μ-loop : tie.MeasureT-loop
 
 slice-aggregate-write-all : tie.Need-slice-aggregate-write-all Inv-loop μ-loop
 slice-aggregate-write-all c =
-    let fill = c .before .before .before .fill in
+    let fill = c .before .before .before .double-fill in
     sym (length-take-le (fill .result .behind) _ (omega (arith, fill .ensures .fills .room, fill .kept)))
 
 loop-less : tie.Need-loop-less Inv-loop μ-loop
@@ -34,7 +34,7 @@ loop-less c =
     let turn = test .before .before .loop in
     let room = length (turn .block) in
     let more = not-true (turn .listed .ended) (test .if1 .taken) in
-    rw (filled .fill .ensures .fills .listing)
+    rw (filled .double-fill .ensures .fills .listing)
     (block-fewer DoubleLine _ room (listingIn (turn .listed) (doubleIn (turn .words))) room more (omega (arith, turn .inv)) (omega (arith, turn .inv)))
 
 pub write-listing-spec : {M : Type 1} → statement M

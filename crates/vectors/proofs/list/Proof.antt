@@ -9,8 +9,8 @@ use native.Mathlib.Omega.{arith}
 
 slice-aggregate-write-all : tie.Need-slice-aggregate-write-all
 slice-aggregate-write-all c =
-    let list = c .before .before .before .list in
-    sym (length-take-le (list .result) _ (omega (arith, list .ensures .room, list .kept)))
+    let put = c .before .before .before .put-listing in
+    sym (length-take-le (put .result) _ (omega (arith, put .ensures, put .kept)))
 
 pub list-spec : {M : Type 1} → statement M
 list-spec =

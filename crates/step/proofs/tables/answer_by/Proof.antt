@@ -7,12 +7,12 @@ use borrow.Author.Needs.{needs}
 returns : tie.Need-returns
 returns c =
     let did = c .answer-to .ensures in
-    rw (c .before .before .enum-told .given .1) (record { answer = did .answer; section = did .words .section; ring = did .words })
+    rw (c .before .before .if1 .taken) (record { answer = did .answer; section = did .section; ring = tt })
 
 returns-2 : tie.Need-returns-2
 returns-2 c =
     let did = c .answer-to2 .ensures in
-    rw (c .before .before .enum-told2 .given .1) (record { answer = did .answer; section = did .section; ring = tt })
+    rw (c .before .before .if1 .left) (record { answer = did .answer; section = did .words .section; ring = did .words })
 
 pub answer-by-spec : {M : Type 1} → statement M
-answer-by-spec = tie.close (tie.spec (λ c. search needs) (λ c κs. search needs) (λ c. search needs) (λ c κs. search needs) returns returns-2)
+answer-by-spec = tie.close (tie.spec (λ c κs. search needs) returns (λ c κs. search needs) returns-2)

@@ -8,12 +8,10 @@ use borrow.Author.Needs.{needs}
 use mathlib.Core.Path.{_∙_, ap}
 
 returns : tie.Need-returns
-returns c = let section = c .before in rw (section .before .enum-told .given .1) (c .well-made .ensures ∙ ap wellMade (section .section-in .ensures))
+returns c = let section = c .before in rw (section .before .if1 .taken) (c .well-made .ensures ∙ ap double.wellMade (section .section-in .ensures))
 
 returns-2 : tie.Need-returns-2
-returns-2 c = let section = c .before in rw (section .before .enum-told2 .given .1) (c .well-made2 .ensures ∙ ap double.wellMade (section .section-in2 .ensures))
+returns-2 c = let section = c .before in rw (section .before .if1 .left) (c .well-made2 .ensures ∙ ap wellMade (section .section-in2 .ensures))
 
 pub is-made-spec : {M : Type 1} → statement M
-is-made-spec =
-    tie.close
-    (tie.spec (λ c. search needs) (λ c κs. search needs) (λ c κs. search needs) (λ c. search needs) (λ c κs. search needs) (λ c κs. search needs) returns returns-2)
+is-made-spec = tie.close (tie.spec (λ c κs. search needs) (λ c κs. search needs) returns (λ c κs. search needs) (λ c κs. search needs) returns-2)

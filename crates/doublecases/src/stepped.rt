@@ -1,0 +1,97 @@
+// What came of a step, written: the answer and the section after it, in the bytes of docs/CASES.md.
+ghost use Prim.Native.Nat.{_+_, _≤_};
+use double::Section;
+use double::Side;
+use double::Stepped;
+use figures::DOUBLE_LENGTH;
+use figures::DOUBLE_REFUSED;
+use figures::SIDE_A;
+use figures::SIDE_B;
+use figures::counts_figures;
+use figures::interval_figures;
+use figures::number_figures;
+use figures::one_if;
+use figures::put_bytes;
+use libc::STDOUT_FILENO;
+use working::Answer;
+use working::Speed;
+
+// The bytes of an answer, and with those of the section behind them.
+const ANSWER_LENGTH: usize = 8;
+
+const LENGTH: usize = ANSWER_LENGTH + DOUBLE_LENGTH;
+
+// Which speed it is, and its two figures.
+fn speed_figures(speed: Speed) -> [u8; 3] {
+    match speed {
+        Speed::NoSpeed => [0, 0, 0],
+        Speed::Walking => [1, 0, 0],
+        Speed::Kmh(kmh) => [2, kmh, 0],
+        Speed::Booked => [3, 0, 0],
+        Speed::Both {
+            straight,
+            elsewhere,
+        } => [4, straight, elsewhere],
+    }
+}
+
+// The answer, at the front; of a refusal its number alone.
+fn put_answer(room: &mut [u8], answer: Answer) {
+    match answer {
+        Answer::Refused(why) => put_bytes(room, 0, &[why.number()]),
+        Answer::Accepted { form, forms, speed } => {
+            put_bytes(room, 1, &number_figures(form));
+            put_bytes(room, 3, &number_figures(forms));
+            put_bytes(room, 5, &speed_figures(speed));
+        }
+    }
+}
+
+// The twelve places of a line.
+fn put_numbers(room: &mut [u8], at: usize, numbers: [u16; Side::PLACES])
+    requires { ⌜ at + 24 ≤ 85 ⌝ }
+{
+    let mut i = 0;
+    while i < Side::PLACES {
+        put_bytes(room, at + i * 2, &number_figures(numbers[i]));
+        i += 1;
+    }
+}
+
+// A station's side.
+fn put_side(room: &mut [u8], at: usize, side: Side)
+    requires { ⌜ at + 32 ≤ 85 ⌝ }
+{
+    let interval = side.interval;
+    let numbers = side.numbers;
+    put_bytes(room, at, &number_figures(side.clock));
+    put_bytes(room, at + 2, &number_figures(side.last));
+    put_bytes(room, at + 4, &interval_figures(interval));
+    put_bytes(room, at + 7, &[side.len]);
+    put_numbers(room, at + 8, numbers);
+}
+
+// The section, well made or not, behind the answer.
+fn put_section(room: &mut [u8], s: Section) {
+    let counts = s.refused;
+    let a = s.a;
+    let b = s.b;
+    put_bytes(room, ANSWER_LENGTH, &[one_if(s.force)]);
+    put_bytes(
+        room,
+        ANSWER_LENGTH + DOUBLE_REFUSED,
+        &counts_figures(counts),
+    );
+    put_side(room, ANSWER_LENGTH + SIDE_A, a);
+    put_side(room, ANSWER_LENGTH + SIDE_B, b);
+}
+
+// Writes an answer and the section after it.
+pub(crate) fn write_stepped(after: Stepped) {
+    let mut room = [0u8; LENGTH];
+    let answer = after.answer;
+    let s = after.section;
+    put_answer(&mut room, answer);
+    put_section(&mut room, s);
+    io::write_all(STDOUT_FILENO, &room);
+}

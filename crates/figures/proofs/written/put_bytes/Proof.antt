@@ -1,0 +1,50 @@
+-- `written::put_bytes` meets its contract: what the kit's `copy` puts at the front of the tail that it is lent stands, of the whole room, at the place.
+-- Assumes nothing.
+use Prim.Native.Nat.{_+_, _-_, _<_, _≤_, ℕ}
+use Rattle.figures.proofs.written.put_bytes.Statement.{statement}
+use Rattle.figures.proofs.written.put_bytes.Tie as tie
+use Rattle.figures.specs.Written.{putAt}
+use borrow.Author.Needs.{needs}
+use borrow.Author.Tests.{le-leb, lt-leb}
+use lib.ListN.{drop, drop-of-length-le, length, length-drop, take}
+use lib.Seq.{drop-drop, take-all}
+use mathlib.Core.List.{List, _++_, append-nil}
+use mathlib.Core.Path.{_≡_}
+use native.Mathlib.Omega.{arith}
+
+no-room : (room bytes : List ℕ) (at : ℕ) → length room < at + length bytes → room ≡ putAt room at bytes
+unfolding putAt
+no-room room bytes at h = rw (lt-leb (at + length bytes) (length room) h)
+
+-- with room for the bytes, and k the length of the tail
+in-tail : (room bytes : List ℕ) (at k : ℕ) → at + length bytes ≤ length room → k ≡ length (drop at room)
+    → take at room ++ ((take (length bytes) bytes ++ drop (length bytes) (take k (drop at room))) ++ drop k (drop at room)) ≡ putAt room at bytes
+unfolding putAt
+in-tail room bytes at k fits tail =
+    let all : take (length bytes) bytes ≡ bytes = take-all (length bytes) bytes (omega arith) in
+    let whole : length (drop at room) ≤ k = omega arith in
+    rw (le-leb (at + length bytes) (length room) fits)
+    (simp (all, take-all k (drop at room) whole, drop-of-length-le (drop at room) whole, append-nil, drop-drop))
+
+returns : tie.Need-returns
+returns c =
+    let args = c .before .before .before .args in
+    no-room (args .room .now) (args .bytes .now) (args .at) (omega arith)
+
+returns-2 : tie.Need-returns-2
+returns-2 c =
+    let args = c .before .before .before .before .args in
+    no-room (args .room .now) (args .bytes .now) (args .at) (omega arith)
+
+returns-3 : tie.Need-returns-3
+returns-3 c =
+    let copied = c .before .before in
+    let args = copied .before .before .before .before .before .before .args in
+    let room = args .room .now in
+    rw (copied .copy .ensures .1)
+    (in-tail room (args .bytes .now) (args .at) (length room - args .at) (omega arith) (omega (arith, length-drop (args .at) room)))
+
+pub put-bytes-spec : {M : Type 1} → statement M
+put-bytes-spec =
+    tie.close
+    (tie.spec returns (λ c. search needs) returns-2 (λ c. search needs) (λ c. search needs) (λ c. search needs) (λ c κs. search needs) (λ c. search needs) returns-3)

@@ -1,0 +1,14 @@
+-- `tables::table_of` meets its contract: the test is the definition's.
+-- Assumes nothing.
+use Rattle.step.proofs.tables.table_of.Statement.{statement}
+use Rattle.step.proofs.tables.table_of.Tie as tie
+use borrow.Author.Needs.{needs}
+
+returns : tie.Need-returns
+returns c = rw (c .if1 .taken)
+
+returns-2 : tie.Need-returns-2
+returns-2 c = rw (c .if1 .left)
+
+pub table-of-spec : {M : Type 1} → statement M
+table-of-spec = tie.close (tie.spec returns returns-2)

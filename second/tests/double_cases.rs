@@ -39,7 +39,12 @@ fn expect_step(before: &Figures, bytes: &[u8], answer: [u8; 8], after: &Figures)
     let input = [&before[..], &[0, bytes.len() as u8], bytes].concat();
     assert_eq!(case.input(), input);
     let outcome = [&answer[..], after].concat();
-    assert_eq!(case.expected(), [&outcome[..], &outcome].concat());
+    let ran = if bytes.is_empty() {
+        [&[0; 8][..], before].concat()
+    } else {
+        outcome.clone()
+    };
+    assert_eq!(case.expected(), [&outcome[..], &outcome, &ran].concat());
 }
 
 #[test]
@@ -109,11 +114,18 @@ fn the_input_is_read_back() {
 #[test]
 fn what_must_come_of_them_is_the_same_in_both_forms() {
     let expected = expected(&CASES);
-    assert_eq!(expected.len(), CASES.len() * 2 * OUTCOME);
-    assert!(expected.len() < 600_000, "{}", expected.len());
-    for (case, outcomes) in CASES.iter().zip(expected.chunks(2 * OUTCOME)) {
-        let (by_value, in_place) = outcomes.split_at(OUTCOME);
+    assert_eq!(expected.len(), CASES.len() * 3 * OUTCOME);
+    assert!(expected.len() < 700_000, "{}", expected.len());
+    for (case, outcomes) in CASES.iter().zip(expected.chunks(3 * OUTCOME)) {
+        let (by_value, others) = outcomes.split_at(OUTCOME);
+        let (in_place, ran) = others.split_at(OUTCOME);
         assert_eq!(by_value, in_place);
+        if case.bytes.is_empty() {
+            assert_eq!(ran[..8], [0; 8]);
+            assert_eq!(ran[8..], case.section.figures());
+        } else {
+            assert_eq!(ran, by_value);
+        }
         let refused_with_5 = by_value[0] == 5;
         assert_eq!(refused_with_5, !case.section.is_well_made());
         if refused_with_5 {

@@ -1,4 +1,4 @@
-// Runs the stored cases of a double line on standard input and writes what came of each: both forms of the step on any section.
+// Runs the stored cases of a double line on standard input and writes what came of each: both forms of the step on any section, and a run of one entry.
 // docs/CASES.md has the two formats. The second program wrote the cases, and `stdout` is what it says must come of them.
 use double::Section;
 use figures::DOUBLE_LENGTH;
@@ -7,7 +7,9 @@ use figures::double_in;
 use figures::number_at;
 use libc::STDIN_FILENO;
 use memory::double_step_via;
+use step::double_run;
 use step::double_step;
+use stepped::write_ran;
 use stepped::write_stepped;
 
 mod memory;
@@ -19,10 +21,11 @@ const HEAD: usize = DOUBLE_LENGTH + 2;
 // The most bytes handed to a step.
 const LONGEST: usize = 64;
 
-// Both forms of the step on the same section and bytes.
+// Both forms of the step on the same section and bytes, and a run of their first entry.
 fn run_case(s: Section, bytes: &[u8]) {
     write_stepped(double_step(s, bytes));
     write_stepped(double_step_via(s, bytes));
+    write_ran(double_run(s, bytes, 1));
 }
 
 // Runs a case whose section was read, with the bytes that fill the room lent; says whether there were so many.

@@ -13,6 +13,8 @@ use figures::number_figures;
 use figures::one_if;
 use figures::put_bytes;
 use libc::STDOUT_FILENO;
+use step::DoubleRan;
+use step::Last;
 use working::Answer;
 use working::Speed;
 
@@ -94,4 +96,21 @@ pub(crate) fn write_stepped(after: Stepped) {
     put_answer(&mut room, answer);
     put_section(&mut room, s);
     io::write_all(STDOUT_FILENO, &room);
+}
+
+// Writes a section that no answer goes with: zeros stand in the answer's place.
+fn write_unanswered(s: Section) {
+    let mut room = [0u8; LENGTH];
+    put_section(&mut room, s);
+    io::write_all(STDOUT_FILENO, &room);
+}
+
+// Writes the last answer of a run, zeros where it had no entry, and the section after it.
+pub(crate) fn write_ran(ran: DoubleRan) {
+    let last = ran.last;
+    let section = ran.section;
+    match last {
+        Last::Answered(answer) => write_stepped(Stepped { answer, section }),
+        Last::NoEntry => write_unanswered(section),
+    }
 }

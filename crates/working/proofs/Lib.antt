@@ -1,5 +1,6 @@
 pub mod AsBefore
 pub mod Bytes
+pub mod Calls
 pub mod Changes
 pub mod Clauses
 pub mod Computing
@@ -27,9 +28,13 @@ pub mod Made
 pub mod MadeTable
 pub mod Meeting
 pub mod Moved
+pub mod Numbers
 pub mod Opposed
 pub mod OwnBytes
+pub mod OwnPlaces
+pub mod Pastes
 pub mod Plans
+pub mod Positions
 pub mod Ranges
 pub mod ReadAgain
 pub mod ReadThenWritten
@@ -41,6 +46,7 @@ pub mod Scans
 pub mod SentAhead
 pub mod Sentences
 pub mod Session
+pub mod Shelves
 pub mod ShortLogs
 pub mod Sides
 pub mod Speeds

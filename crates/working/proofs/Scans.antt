@@ -1,5 +1,6 @@
 -- A list of tests is scanned for the first that holds: it refuses or allows by that one, and of two lists in a row the second decides where the first lets everything pass.
 -- Assumes nothing.
+use Rattle.working.proofs.Every.{Every}
 use Rattle.working.proofs.Tests.{NoneHolds, none-holds}
 use Rattle.working.specs.Refusals.{Test, firstOf, orElse}
 use Rattle.working.specs.declared.Refusal.{Refusal}
@@ -16,6 +17,16 @@ scanned P tests refused passed = by (firstOf tests) refl
     by : (v : Verdict) → firstOf tests ≡ v → P v
     by (Refused why) e = refused why
     by Allowed e = passed (none-holds tests e)
+
+-- the same, where only the refusal of a test that holds is looked at
+pub scanned-each : (P : Verdict → Type 0) (tests : List Test) → Every (λ (t : Test). t .0 ≡ true → P (Refused (t .1))) tests → (NoneHolds tests → P Allowed)
+    → P (firstOf tests)
+scanned-each P [] refused passed = passed tt
+scanned-each P (t ∷ tests) refused passed = by (t .0) refl (λ fails. scanned-each P tests (refused .1) (λ none. passed (fails, none)))
+  where
+    by : (holds : Bool) → t .0 ≡ holds → (t .0 ≡ false → P (firstOf tests)) → P (orElse holds (t .1) (firstOf tests))
+    by true is later = refused .0 is
+    by false is later = later is
 
 -- two lists in a row
 abbrev orAfter : Verdict → Verdict → Verdict

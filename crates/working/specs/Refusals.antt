@@ -1,13 +1,13 @@
 -- Document 01, "Reasons by who causes them": the numbers, and a list of tests that is scanned for the first that holds.
 use Prim.Native.Nat.{ℕ}
-use Rattle.working.specs.declared.Refusal.the-variants.{AlreadyInForce, BeforeClock, BufferTooShort, EndsInside, FormsUsed, GrantNotAllowed, GuestHere, HoldsLineClear, IllMade, IntervalRunning, MayNotEnter, MayNotMeet, NoGuest, NoLineClear, NotInForce, NotNearest, OpenerAway, OutOfRange, OwesLineClear, TwelveSent, UnknownKind, VehiclePresent, WrongMap}
+use Rattle.working.specs.declared.Refusal.the-variants.{AlreadyInForce, BeforeClock, BufferTooShort, EndsInside, FormsUsed, GrantNotAllowed, GuestHere, HoldsLineClear, IllMade, IntervalRunning, MayNotEnter, MayNotMeet, NoGuest, NoLineClear, NoPosition, NotInForce, NotNearest, OpenerAway, OutOfRange, OwesLineClear, ShelfFull, TwelveSent, UnknownKind, UnknownName, VehiclePresent, WrongMap}
 use Rattle.working.specs.declared.Refusal.{Refusal}
 use Rattle.working.specs.declared.Verdict.the-variants.{Allowed, Refused}
 use Rattle.working.specs.declared.Verdict.{Verdict}
 use mathlib.Core.Bool.{Bool, false, true}
 use mathlib.Core.List.{List, [], _∷_}
 
--- document 01's number of each refusal
+-- document 01's number of each refusal, and T-06's
 abbrev pub numberOf : Refusal → ℕ
 -- whoever writes the log
 numberOf EndsInside = 1
@@ -37,6 +37,10 @@ numberOf IntervalRunning = 19
 numberOf NotNearest = 20
 numberOf MayNotEnter = 21
 numberOf MayNotMeet = 22
+-- T-06: whoever keeps positions
+numberOf UnknownName = 24
+numberOf ShelfFull = 25
+numberOf NoPosition = 26
 
 -- a test, and the refusal where it holds
 abbrev pub Test : Type 0

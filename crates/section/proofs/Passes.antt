@@ -15,6 +15,12 @@ pub record Pass {T R : Type 0} (of : List T → R) (l : List T) (from n i : ℕ)
   pub left : from ≤ i
   pub says : told ≡ of (drop i (take n l))
 
+-- the one before
+pub one-before : {T : Type 0} (l : List T) (n i : ℕ) (d : T) → n ≤ length l → 0 < i → i ≤ n → drop (i - 1) (take n l) ≡ getD l (i - 1) d ∷ drop i (take n l)
+one-before l n i d fits some within =
+    let back : suc (i - 1) ≡ i = omega arith in
+    rw (getD-take n l (i - 1) d (omega arith), back) at (drop-cons (take n l) (i - 1) d (omega (arith, length-take-le n l fits)))
+
 module _ {T R : Type 0} (of : List T → R) (l : List T) (from n : ℕ) (fits : n ≤ length l) where
   -- with none
   pub begins : from ≤ n → {told : R} → told ≡ of [] → Pass of l from n n told
@@ -26,9 +32,7 @@ module _ {T R : Type 0} (of : List T → R) (l : List T) (from n : ℕ) (fits : 
   pub goes-on : {i : ℕ} {told next : R} → Pass of l from n i told → from < i → (d : T) → next ≡ of (getD l (i - 1) d ∷ drop i (take n l))
       → Pass of l from n (i - 1) next
   goes-on {i} p less d h =
-      let back : suc (i - 1) ≡ i = omega arith in
-      let down = drop-cons (take n l) (i - 1) d (omega (arith, length-take-le n l fits)) in
-      record { within = omega arith; left = omega arith; says = h ∙ ap of (sym (rw (getD-take n l (i - 1) d (omega arith), back) at down)) }
+      record { within = omega arith; left = omega arith; says = h ∙ ap of (sym (one-before l n i d fits (omega arith) (omega arith))) }
 
   pub ends : {i : ℕ} {told : R} → Pass of l from n i told → i ≤ from → told ≡ of (drop from (take n l))
   ends {i} p most = let done : i ≡ from = omega arith in rw done at (p .says)

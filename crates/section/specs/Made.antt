@@ -1,5 +1,5 @@
 -- What one pass over the vehicles finds, and a desk beside it: the clauses of `wellMade` in the groups in which the code tests them.
-use Prim.Native.Nat.{_+_, _<_, ℕ}
+use Prim.Native.Nat.{_*_, _+_, _<_, ℕ}
 use Rattle.section.specs.declared.made.Survey.{Survey}
 use Rattle.section.specs.declared.made.Tally.{Tally}
 use Rattle.working.specs.Entries.{every}
@@ -7,9 +7,10 @@ use Rattle.working.specs.WellMade.{all, countFrom, deskFigures, isBlank, isFrom
 use Rattle.working.specs.declared.Desk.{Desk}
 use Rattle.working.specs.declared.Movement.{Movement}
 use Rattle.working.specs.declared.Vehicle.{Vehicle}
-use lib.Dec.{leb}
-use mathlib.Core.Bool.{Bool, _&&_, cond, not}
+use lib.Dec.{eqb, leb}
+use mathlib.Core.Bool.{Bool, _&&_, cond, not, true}
 use mathlib.Core.List.{List, [], _++_, _∷_}
+use mathlib.Core.Path.{_≡_}
 
 -- class, asked, granted and given up are in the ranges of what the vehicle left on
 abbrev pub movementMade : Movement → ℕ → Bool
@@ -22,6 +23,26 @@ allBlank l = all isBlank l
 -- v differs from each of l in sender or form number
 abbrev pub differsFrom : Vehicle → List Vehicle → Bool
 differsFrom v l = all (λ w. not (same v w)) l
+
+-- ---- names: sender and form number in one number
+
+abbrev pub nameOf : Vehicle → ℕ
+nameOf v = v .sender * 65536 + v .form
+
+-- no vehicle's name
+abbrev pub noName : ℕ
+noName = 16777216
+
+-- v, of figures that fit their bytes, has the name n
+pub record Named (v : Vehicle) (n : ℕ) : Type 0 where
+  pub is : n ≡ nameOf v
+  pub form : v .form < 65536
+  pub some : n < noName
+
+-- n is none of l
+abbrev pub lacks : ℕ → List ℕ → Bool
+lacks n [] = true
+lacks n (m ∷ l) = not (eqb m n) && lacks n l
 
 -- ---- the pass over the vehicles
 

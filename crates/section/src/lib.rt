@@ -9,5 +9,6 @@ pub use made::well_made;
 pub use stations::other;
 pub use stations::station_number;
 pub use stations::station_of;
+pub use vehicles::fitting;
 pub use vehicles::is_named;
 pub use vehicles::is_opener;

@@ -1,11 +1,13 @@
 // One vehicle: what it left on, whose it is, and whether its record is well made.
+ghost use Prim.Native.Nat.{min};
 ghost use Rattle.section.specs.Made.{movementMade};
 ghost use Rattle.working.specs.Reasons.{isNamed};
-ghost use Rattle.working.specs.WellMade.{isBlank, isBlankMovement, isOpener, same, shaped};
+ghost use Rattle.working.specs.WellMade.{isBlank, isBlankMovement, isOpener, shaped};
 ghost use mathlib.Core.Path.{_≡_};
 use crate::stations::station_number;
 use working::Desk;
 use working::Movement;
+use working::Section;
 use working::Station;
 use working::Vehicle;
 
@@ -37,13 +39,6 @@ pub fn is_named(sender: Station, form: u16, v: Vehicle) -> bool
     ensures { λ r. ⌜ r ≡ isNamed sender form v ⌝ }
 {
     (v.sender == station_number(sender)) & (v.form == form)
-}
-
-// Whether two vehicles have one sender and one form number.
-pub(crate) fn is_same(v: Vehicle, w: Vehicle) -> bool
-    ensures { λ r. ⌜ r ≡ same v w ⌝ }
-{
-    (v.sender == w.sender) & (v.form == w.form)
 }
 
 // Whether the class, asked, granted and given up of a vehicle are in the ranges of what it left on.
@@ -112,4 +107,15 @@ pub(crate) fn is_blank(v: Vehicle) -> bool
         & (v.heading == 0)
         & !v.met
         & (v.class == 0)
+}
+
+// As many vehicles as there are places for.
+pub fn fitting(len: usize) -> usize
+    ensures { λ r. ⌜ r ≡ min len 24 ⌝ }
+{
+    if len < Section::PLACES {
+        len
+    } else {
+        Section::PLACES
+    }
 }

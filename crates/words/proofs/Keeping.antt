@@ -46,16 +46,3 @@ own-next {w} {after} s places i own less long b =
 -- a desk
 pub own-desk : {w after : List ℕ} {s : Section} (x : Station) (d : Desk) → OwnWords w s → DeskBecomes w after x (λ z. d) → OwnWords after (withDesk s x d)
 own-desk {w} {after} {s} x d own b = own-then own (becomes-as b (ap (λ z. withDesk z x d) (own .section)) refl) (omega (arith, desk-length s x d, own .fits))
-
--- ---- the places read off
-
-pad-snoc : (n : ℕ) (l : List Vehicle) (v : Vehicle) → set (padTo n l) (length l) v ≡ padTo n (l ++ v ∷ [])
-unfolding padWith
-pad-snoc zero l v = refl
-pad-snoc (suc n) [] v = refl
-pad-snoc (suc n) (u ∷ l) v = ap (λ (t : List Vehicle). u ∷ t) (pad-snoc n l v)
-
-pub place-next : (l : List Vehicle) (i : ℕ) → i < length l → set (padTo 24 (take i l)) i (getD l i unused) ≡ padTo 24 (take (i + 1) l)
-place-next l i less =
-    rw (add-one i, take-suc l i unused less)
-    (ap (λ k. set (padTo 24 (take i l)) k (getD l i unused)) (sym (length-take-le i l (omega arith))) ∙ pad-snoc 24 (take i l) (getD l i unused))

@@ -11,9 +11,9 @@ use crate::desks::put_desk;
 use crate::desks::refused;
 use crate::ring::at_place;
 use crate::ring::emptied_words;
-use crate::ring::fitting;
-use crate::ring::insert;
+use crate::ring::insert_last;
 use crate::ring::present_in;
+use section::fitting;
 use working::Counts;
 use working::Section;
 use working::Station;
@@ -39,7 +39,7 @@ fn present_words(
     let mut words = emptied_words(force, counts);
     let mut i = 0;
     while i < present {
-        insert(&mut words, Station::B, places[i]);
+        insert_last(&mut words, places[i]);
         i += 1;
     }
     words

@@ -30,4 +30,6 @@ pub use ring::empty;
 pub use ring::insert;
 pub use ring::meet;
 pub use ring::nearest;
+pub use ring::present_in;
 pub use ring::remove;
+pub use ring::vehicle;

@@ -6,6 +6,7 @@ ghost use Rattle.words.specs.Words.{Becomes, VehiclesBecome, Met, OwnWor
 ghost use Rattle.working.specs.Reasons.{findOf, mayMeet};
 ghost use Rattle.working.specs.Sections.{emptied, insertAt, vehiclesOf, nearestAt, removeAt, unused};
 ghost use Rattle.working.specs.Steps.{redirectAt, redirected};
+ghost use Rattle.working.specs.declared.Station.the-variants.{B};
 ghost use lib.ListN.{getD, length};
 ghost use mathlib.Core.Path.{_≡_};
 use crate::desks::FORCE;
@@ -24,6 +25,7 @@ use crate::vehicles::first_word;
 use crate::vehicles::second_word;
 use crate::vehicles::vehicle_in;
 use crate::vehicles::word_if;
+use section::fitting;
 use section::is_named;
 use section::is_opener;
 use section::station_number;
@@ -47,19 +49,8 @@ pub fn emptied_words(force: bool, counts: Counts) -> Words
     words
 }
 
-// As many vehicles as there are places for.
-pub(crate) fn fitting(len: usize) -> usize
-    ensures { λ r. ⌜ r ≡ min len 24 ⌝ }
-{
-    if len < Section::PLACES {
-        len
-    } else {
-        Section::PLACES
-    }
-}
-
 // How many vehicles are present.
-pub(crate) fn present_in(words: &Words) -> usize
+pub fn present_in(words: &Words) -> usize
     ensures { λ r. ⌜ (r ≡ length (vehiclesOf (sectionIn (now (words .entry))))) × (r ≤ 24) ⌝ }
 {
     fitting(words[LEN] as usize)
@@ -95,6 +86,16 @@ pub(crate) fn at_place(words: &Words, i: usize) -> Vehicle
     ensures { λ r. ⌜ r ≡ getD (vehiclesOf (sectionIn (now (words .entry)))) i unused ⌝ }
 {
     vehicle_at(words, slot_of(start_in(words), i))
+}
+
+// The vehicle at a place, counted from A, or the unused place where there is none.
+pub fn vehicle(words: &Words, i: usize) -> Vehicle
+    ensures { λ r. ⌜ r ≡ getD (vehiclesOf (sectionIn (now (words .entry)))) i unused ⌝ }
+{
+    if i < present_in(words) {
+        return at_place(words, i);
+    }
+    Vehicle::unused()
 }
 
 // A vehicle is put into a slot. Seen as a slice, the array shows the proof how many its words are.
@@ -145,6 +146,16 @@ pub fn insert(words: &mut Words, at: Station, v: Vehicle)
     words[LEN] = (present + 1) as u64;
     let start = move_start(words, at, ONE_BACK);
     put_vehicle(words, end_slot(at, start, present), v);
+}
+
+// One more at B's end, for a section that is put into words. It stands apart from `insert`, so that in an archive with both the compiler still joins that to each departure.
+pub(crate) fn insert_last(words: &mut Words, v: Vehicle)
+    ensures { λ _. ⌜ VehiclesBecome (now (words .entry)) (now (words .exit)) (insertAt B v) (λ start. startOn B start oneBack) ⌝ }
+{
+    let present = present_in(words);
+    words[LEN] = (present + 1) as u64;
+    let start = move_start(words, Station::B, ONE_BACK);
+    put_vehicle(words, end_slot(Station::B, start, present), v);
 }
 
 // One less, and not below 0.

@@ -31,7 +31,7 @@ loop-again c =
     let long : length (a .t3) ≡ 24 = search needs in
     record {
       within = omega arith;
-      so-far = λ counts own. own-next (emptied (a .force) counts) (a .t3) i (loop .loop .inv .so-far counts own) (omega arith) long (c .insert .ensures);
+      so-far = λ counts own. own-next (emptied (a .force) counts) (a .t3) i (loop .loop .inv .so-far counts own) (omega arith) long (c .insert-last .ensures);
     }
 
 returns : tie.Need-returns Inv-loop μ-loop

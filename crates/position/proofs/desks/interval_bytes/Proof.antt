@@ -1,0 +1,14 @@
+-- `desks::interval_bytes` meets its contract: each arm is the definition's own.
+-- Assumes nothing.
+use Rattle.position.proofs.desks.interval_bytes.Statement.{statement}
+use Rattle.position.proofs.desks.interval_bytes.Tie as tie
+use borrow.Author.Needs.{needs}
+
+returns : tie.Need-returns
+returns c = rw (c .enum-told .given .1)
+
+returns-2 : tie.Need-returns-2
+returns-2 c = rw (c .before .before .interval .given .1, c .in-two .ensures)
+
+pub interval-bytes-spec : {M : Type 1} → statement M
+interval-bytes-spec = tie.close (tie.spec (λ c. search needs) (λ c. search needs) (λ c κs. search needs) (λ c. search needs) (λ c. search needs) returns returns-2)

@@ -1,0 +1,15 @@
+-- `sections::section_at` meets its contract: each figure is read at its place.
+-- Assumes nothing.
+use Rattle.position.proofs.sections.section_at.Statement.{statement}
+use Rattle.position.proofs.sections.section_at.Tie as tie
+use Rattle.working.specs.Positions.{sectionAt}
+use borrow.Author.Needs.{needs}
+
+returns : tie.Need-returns
+unfolding sectionAt
+returns c = cc
+
+pub section-at-spec : {M : Type 1} → statement M
+section-at-spec =
+    tie.close
+    (tie.spec (λ c κs. search needs) (λ c κs. search needs) (λ c. search needs) (λ c κs. search needs) (λ c κs. search needs) (λ c κs. search needs) returns)

@@ -1,0 +1,3 @@
+pub mod Titles
+pub mod Verdicts
+pub mod Walk

@@ -6,11 +6,9 @@ use Rattle.step.specs.Running.{lastIn}
 use Rattle.step.specs.declared.running.Last.the-variants.{Answered, NoEntry}
 use Rattle.step.specs.declared.running.Last.{Last}
 use Rattle.working.specs.Entries.{pasted}
-use Rattle.working.specs.Refusals.{numberOf}
+use Rattle.working.specs.Positions.{refusalOf}
 use Rattle.working.specs.Sections.{fresh}
 use Rattle.working.specs.Turns.{single, turnsOf}
-use Rattle.working.specs.declared.Answer.the-variants as answer
-use Rattle.working.specs.declared.Answer.{Answer}
 use Rattle.working.specs.declared.Table.the-variants.{SingleLine}
 use lib.Dec.{ltb}
 use lib.ListN.{length}
@@ -56,12 +54,7 @@ FiguresInTheEnd = (log : List ℕ) → length log ≤ longestLog → lastLineOf 
 
 -- ---- the last answer
 
--- the number of a refusal; 0 where the entry is accepted
-abbrev pub refusalOf : Answer → ℕ
-refusalOf (answer.Refused why) = numberOf why
-refusalOf (answer.Accepted form forms speed) = 0
-
--- 0 too where there was no entry
+-- the number of a refusal, 0 where the entry is accepted and where there was none
 abbrev pub lastOf : Last → ℕ
 lastOf NoEntry = 0
 lastOf (Answered a) = refusalOf a

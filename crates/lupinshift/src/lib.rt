@@ -1,13 +1,16 @@
-// Functions for a host in C or Rust, on a single line's log: its listing, whole or in blocks, its last line alone, as text and as figures, the answer to its last entry,
-// and how many of its entries are taken. Slices of bytes and numbers only; host/lupinshift.h declares them. Where a call is refused the answer is 0, and no lent place is
-// altered.
-ghost use Rattle.lupinshift.specs.Answers.{Ends, Figures, Lists, answerOf, lastOf, refusalOf};
+// Functions for a host in C or Rust. On a single line's log: its listing, whole or in blocks, its last line alone, as text and as figures, the answer to its last entry, and
+// how many of its entries are taken; where such a call is refused the answer is 0. On a single line's section as a position: a step, a shelf of named positions, and entries
+// as fields; there the answer is 0 or the number of the refusal. Slices of bytes and numbers only; host/lupinshift.h declares them. No refused call alters a lent place.
+ghost use Rattle.lupinshift.specs.Answers.{Ends, Figures, Lists, answerOf, lastOf};
 ghost use Rattle.lupinshift.specs.State.{Begins, FillsOn};
 ghost use Rattle.step.specs.Listings.{listingRoom};
+ghost use Rattle.working.specs.Positions.{refusalOf};
 ghost use Rattle.working.specs.Sections.{fresh};
 ghost use Rattle.working.specs.Turns.{single, takenIn, turnsOf};
 ghost use mathlib.Core.Path.{_≡_};
 
+mod entries;
+mod positions;
 mod state;
 
 use crate::state::STATE_WORDS;
@@ -108,7 +111,7 @@ pub extern "C" fn lupin_figures(log: &[u8], figures: &mut [u64]) -> usize
 }
 
 // The number of a refusal, and 0 where the answer is none.
-fn refusal_of(answer: Answer) -> u32
+pub(crate) fn refusal_of(answer: Answer) -> u32
     ensures { λ r. ⌜ r ≡ refusalOf answer ⌝ }
 {
     match answer {

@@ -6,6 +6,8 @@ pub mod Examples
 pub mod Filling
 pub mod LastLine
 pub mod Next
+pub mod OneEntry
 pub mod Own
 pub mod Room
+pub mod Stored
 pub mod Whole

@@ -7,9 +7,12 @@
 use crate::entry::Kind;
 use crate::section::{Desk, Refused, Section, Vehicle};
 
-/// The bytes of one place: kind, asked, granted, sender, form number (2),
-/// heading, met, class, given up.
+/// The bytes of one place: kind, sender, form number (2), heading, met, class,
+/// asked, granted, given up.
 pub(crate) const PLACE_LENGTH: usize = 10;
+
+/// The bytes of all places.
+pub(crate) const PLACES_LENGTH: usize = Section::MOST_VEHICLES * PLACE_LENGTH;
 
 /// The bytes of one desk: clock (2), last form number (2), sent, interval
 /// running, its minute (2), out, guest, asked, holds, owes, waiting.
@@ -19,10 +22,13 @@ const DESK_LENGTH: usize = 14;
 /// station (4).
 pub(crate) const REFUSED_LENGTH: usize = 12;
 
+/// The bytes of what is in a section besides its vehicles: in force, the counts of
+/// refused entries, and the desks of A and B.
+pub(crate) const WORKING_LENGTH: usize = 1 + REFUSED_LENGTH + 2 * DESK_LENGTH;
+
 /// The bytes of a section: its places, the vehicles present, in force, the
 /// counts of refused entries, and the desks of A and B.
-pub const FIGURES_LENGTH: usize =
-    Section::MOST_VEHICLES * PLACE_LENGTH + 1 + 1 + REFUSED_LENGTH + 2 * DESK_LENGTH;
+pub const FIGURES_LENGTH: usize = PLACES_LENGTH + 1 + WORKING_LENGTH;
 
 /// The figures of a section; those of more than one byte high byte first.
 pub type Figures = [u8; FIGURES_LENGTH];
@@ -45,38 +51,33 @@ impl Section {
     /// in every figure, which stands for no vehicle.
     #[must_use]
     pub fn figures(&self) -> Option<Figures> {
-        let mut bytes = Vec::with_capacity(FIGURES_LENGTH);
-        for place in &self.places {
-            bytes.extend(place_figures(place)?);
+        if !self.places.iter().all(has_room) {
+            return None;
         }
-        bytes.push(u8::try_from(self.present).ok()?);
-        bytes.push(self.in_force.into());
-        bytes.extend(refused_figures(&self.refused));
-        bytes.extend(self.desks.iter().flat_map(desk_figures));
-        bytes.try_into().ok()
+        let mut figures = [0; FIGURES_LENGTH];
+        let mut room = Room::of(&mut figures);
+        room.put_places(self);
+        room.put([u8::try_from(self.present).ok()?]);
+        room.put_working(self);
+        Some(figures)
     }
 
     /// The section with these figures; none where no section has them.
     #[must_use]
     pub fn from_figures(figures: &Figures) -> Option<Section> {
         let mut rest = Rest::of(figures);
-        let section = Section {
-            places: std::array::from_fn(|_| rest.place()),
-            present: rest.byte().into(),
-            in_force: rest.flag(),
-            refused: rest.refused(),
-            desks: std::array::from_fn(|_| rest.desk()),
-        };
-        // A flag of 2, a kind that is no departure or the minute of an
-        // interval that does not run has not found its way into the section.
-        (section.figures().as_ref() == Some(figures)).then_some(section)
+        let places = rest.places()?;
+        let present = rest.byte().into();
+        let section = rest.working(places, present)?;
+        section.places.iter().all(has_room).then_some(section)
     }
 }
 
-fn place_figures(vehicle: &Vehicle) -> Option<[u8; PLACE_LENGTH]> {
+/// Whether the figures of a place have room for it.
+fn has_room(vehicle: &Vehicle) -> bool {
     let none_given_up = vehicle.given_up == 0;
     let no_messages = vehicle.asked == 0 && vehicle.granted == 0;
-    let has_room = match vehicle.left_on {
+    match vehicle.left_on {
         None | Some(Kind::Through) => no_messages && none_given_up,
         Some(Kind::Open) => {
             vehicle.granted == 0 && none_given_up && !is_zero_but_for_its_kind(vehicle)
@@ -84,20 +85,7 @@ fn place_figures(vehicle: &Vehicle) -> Option<[u8; PLACE_LENGTH]> {
         Some(Kind::Return | Kind::Train) => none_given_up,
         Some(Kind::LastTrain) => true,
         Some(Kind::Begin | Kind::Receive | Kind::Meet | Kind::Resume) => false,
-    };
-    let [form_high, form_low] = vehicle.form.to_be_bytes();
-    has_room.then_some([
-        vehicle.left_on.map_or(0, Kind::number),
-        vehicle.asked,
-        vehicle.granted,
-        vehicle.sender,
-        form_high,
-        form_low,
-        vehicle.heading,
-        vehicle.met.into(),
-        vehicle.class,
-        vehicle.given_up,
-    ])
+    }
 }
 
 fn is_zero_but_for_its_kind(vehicle: &Vehicle) -> bool {
@@ -108,16 +96,20 @@ fn is_zero_but_for_its_kind(vehicle: &Vehicle) -> bool {
         }
 }
 
-pub(crate) fn refused_figures(refused: &Refused) -> impl Iterator<Item = u8> {
-    [refused.for_a, refused.for_b, refused.of_none]
-        .into_iter()
-        .flat_map(u32::to_be_bytes)
-}
-
-/// Whether it runs, and its minute; 0 where it does not run.
-pub(crate) fn interval_figures(interval: Option<u16>) -> [u8; 3] {
-    let [minute_high, minute_low] = interval.unwrap_or(0).to_be_bytes();
-    [interval.is_some().into(), minute_high, minute_low]
+fn place_figures(vehicle: &Vehicle) -> [u8; PLACE_LENGTH] {
+    let [form_high, form_low] = vehicle.form.to_be_bytes();
+    [
+        vehicle.left_on.map_or(0, Kind::number),
+        vehicle.sender,
+        form_high,
+        form_low,
+        vehicle.heading,
+        vehicle.met.into(),
+        vehicle.class,
+        vehicle.asked,
+        vehicle.granted,
+        vehicle.given_up,
+    ]
 }
 
 fn desk_figures(desk: &Desk) -> [u8; DESK_LENGTH] {
@@ -142,6 +134,51 @@ fn desk_figures(desk: &Desk) -> [u8; DESK_LENGTH] {
     ]
 }
 
+/// Whether it runs, and its minute; 0 where it does not run.
+pub(crate) fn interval_figures(interval: Option<u16>) -> [u8; 3] {
+    let [minute_high, minute_low] = interval.unwrap_or(0).to_be_bytes();
+    [interval.is_some().into(), minute_high, minute_low]
+}
+
+/// The room that is left for figures still to be put.
+pub(crate) struct Room<'a>(&'a mut [u8]);
+
+impl<'a> Room<'a> {
+    /// All of this.
+    pub(crate) fn of(figures: &'a mut [u8]) -> Room<'a> {
+        Room(figures)
+    }
+
+    pub(crate) fn put_places(&mut self, section: &Section) {
+        for place in &section.places {
+            self.put(place_figures(place));
+        }
+    }
+
+    /// All but the places and how many of them are used.
+    pub(crate) fn put_working(&mut self, section: &Section) {
+        self.put([section.in_force.into()]);
+        self.put_refused(&section.refused);
+        for desk in &section.desks {
+            self.put(desk_figures(desk));
+        }
+    }
+
+    pub(crate) fn put_refused(&mut self, refused: &Refused) {
+        for count in [refused.for_a, refused.for_b, refused.of_none] {
+            self.put(count.to_be_bytes());
+        }
+    }
+
+    /// There is as much room as the figures of a section take, so it does not end.
+    pub(crate) fn put<const N: usize>(&mut self, figures: [u8; N]) {
+        if let Some((next, rest)) = std::mem::take(&mut self.0).split_first_chunk_mut() {
+            *next = figures;
+            self.0 = rest;
+        }
+    }
+}
+
 /// The figures that are still to be read.
 pub(crate) struct Rest<'a>(&'a [u8]);
 
@@ -152,24 +189,46 @@ impl<'a> Rest<'a> {
     }
 }
 
+/// Where no section has the figures that come next, nothing is read.
 impl Rest<'_> {
     // The order of the fields is the order in which they are read, so they
     // stand here in the order of the figures.
 
-    fn place(&mut self) -> Vehicle {
-        let left_on = Kind::from_number(self.byte());
-        let (asked, granted) = (self.byte(), self.byte());
-        Vehicle {
-            left_on,
+    pub(crate) fn places(&mut self) -> Option<[Vehicle; Section::MOST_VEHICLES]> {
+        let mut places = [Vehicle::default(); Section::MOST_VEHICLES];
+        for place in &mut places {
+            *place = self.place()?;
+        }
+        Some(places)
+    }
+
+    fn place(&mut self) -> Option<Vehicle> {
+        Some(Vehicle {
+            left_on: self.kind()?,
             sender: self.byte(),
             form: self.pair(),
             heading: self.byte(),
-            met: self.flag(),
+            met: self.flag()?,
             class: self.byte(),
-            asked,
-            granted,
+            asked: self.byte(),
+            granted: self.byte(),
             given_up: self.byte(),
-        }
+        })
+    }
+
+    /// The section that has these vehicles, and all else as it comes next.
+    pub(crate) fn working(
+        &mut self,
+        places: [Vehicle; Section::MOST_VEHICLES],
+        present: usize,
+    ) -> Option<Section> {
+        Some(Section {
+            places,
+            present,
+            in_force: self.flag()?,
+            refused: self.refused(),
+            desks: [self.desk()?, self.desk()?],
+        })
     }
 
     pub(crate) fn refused(&mut self) -> Refused {
@@ -180,29 +239,44 @@ impl Rest<'_> {
         }
     }
 
-    fn desk(&mut self) -> Desk {
-        Desk {
+    fn desk(&mut self) -> Option<Desk> {
+        Some(Desk {
             clock: self.pair(),
             last_form: self.pair(),
             sent: self.byte(),
-            interval: self.interval(),
-            out: self.flag(),
+            interval: self.interval()?,
+            out: self.flag()?,
             guest: self.byte(),
             asked: self.byte(),
             holds: self.byte(),
             owes: self.byte(),
             waiting: self.byte(),
+        })
+    }
+
+    /// 0 is no kind; a number over the last kind's is of no section.
+    fn kind(&mut self) -> Option<Option<Kind>> {
+        match self.byte() {
+            0 => Some(None),
+            number => Kind::from_number(number).map(Some),
         }
     }
 
-    pub(crate) fn interval(&mut self) -> Option<u16> {
-        let runs = self.flag();
-        let minute = self.pair();
-        runs.then_some(minute)
+    /// An interval that does not run has no minute.
+    pub(crate) fn interval(&mut self) -> Option<Option<u16>> {
+        match (self.flag()?, self.pair()) {
+            (true, minute) => Some(Some(minute)),
+            (false, 0) => Some(None),
+            (false, _) => None,
+        }
     }
 
-    pub(crate) fn flag(&mut self) -> bool {
-        self.byte() == 1
+    pub(crate) fn flag(&mut self) -> Option<bool> {
+        match self.byte() {
+            0 => Some(false),
+            1 => Some(true),
+            _ => None,
+        }
     }
 
     pub(crate) fn byte(&mut self) -> u8 {

@@ -96,6 +96,11 @@ impl Generator {
         &self.section
     }
 
+    /// Goes on from this section.
+    pub fn go_to(&mut self, section: Section) {
+        self.section = section;
+    }
+
     /// The bytes of one more entry of a log, whole though perhaps refused.
     pub fn next_entry(&mut self) -> Vec<u8> {
         self.make_entry()

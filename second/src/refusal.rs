@@ -14,7 +14,7 @@ pub enum Refusal {
     MapNotOfKind = 3,
     /// A field lies outside its range.
     FieldOutOfRange = 4,
-    /// The section lent is not well made.
+    /// The section lent is not well made, or the shelf lent is none.
     IllMade = 5,
     /// BEGIN while the working is in force.
     InForce = 6,
@@ -51,8 +51,15 @@ pub enum Refusal {
     MayNotEnter = 21,
     /// The vehicle named has nobody to meet, or may not meet.
     NoMeeting = 22,
-    /// The buffer is too short for the entry being written.
+    /// The buffer is too short for what is put into it: an entry, its fields, an
+    /// answer, or a position.
     BufferTooShort = 23,
+    /// The name is not 1 to 12 capital letters, or nothing is stored under it.
+    NoSuchName = 24,
+    /// The name would be the seventeenth on the shelf.
+    ShelfFull = 25,
+    /// The bytes are not those of a well-made section.
+    NoPosition = 26,
 }
 
 impl Refusal {
@@ -70,3 +77,9 @@ impl fmt::Display for Refusal {
 }
 
 impl std::error::Error for Refusal {}
+
+/// What a function for hosts gives back: 0 where all is well, or the number of the
+/// refusal.
+pub(crate) fn number_or_0(done: Result<(), Refusal>) -> u32 {
+    done.map_or_else(|refusal| refusal.number().into(), |()| 0)
+}

@@ -95,14 +95,14 @@ fn the_session_by_hand() {
     let one = (PRESENT, &[1][..]);
     let a_after_open = (DESK_A, &[0, 10, 0, 1, 1, 1, 0, 10, 1][..]);
     let b_after_return = (DESK_B, &[0, 75, 0, 1, 1, 1, 0, 75, 0, 0, 0, 0, 2][..]);
-    let train_2 = &[5, 0, 0, 1, 0, 2, 2, 0, 0, 0][..];
-    let trains_3_and_2 = &[5, 0, 0, 1, 0, 3, 2, 0, 0, 0, 5, 0, 0, 1, 0, 2, 2, 0, 0, 0][..];
+    let train_2 = &[5, 1, 0, 2, 2, 0, 0, 0, 0, 0][..];
+    let trains_3_and_2 = &[5, 1, 0, 3, 2, 0, 0, 0, 0, 0, 5, 1, 0, 2, 2, 0, 0, 0, 0, 0][..];
     let a_after_train = (DESK_A, &[0, 96, 0, 2, 1, 1, 0, 96, 0, 0, 0, 1][..]);
     let after = [
         figures(&[in_force]),
         // OPEN: class 1, asked 2, form 1; out is set.
         figures(&[
-            (0, &[2, 2, 0, 1, 0, 1, 2, 0, 1, 0]),
+            (0, &[2, 1, 0, 1, 2, 0, 1, 2, 0, 0]),
             one,
             in_force,
             a_after_open,
@@ -115,7 +115,7 @@ fn the_session_by_hand() {
         ]),
         // RETURN: the guest's class, granted 2; B owes 2.
         figures(&[
-            (0, &[4, 0, 2, 2, 0, 1, 1, 0, 1, 0]),
+            (0, &[4, 2, 0, 1, 1, 0, 1, 0, 2, 0]),
             one,
             in_force,
             a_after_open,
@@ -248,7 +248,7 @@ fn sections_in_hex_by_hand() {
     expect(&figures(&[]), "no 1", empty);
     // A place is written whole, also where it ends with zeros.
     let one_train = figures(&[
-        (0, &[5, 0, 0, 1, 0, 2, 2, 0, 0, 0]),
+        (0, &[5, 1, 0, 2, 2, 0, 0, 0, 0, 0]),
         (PRESENT, &[1, 1]),
         (FOR_B + 3, &[3]),
         (DESK_A, &[0, 96, 0, 2, 1, 1, 0, 96, 0, 0, 0, 1]),
@@ -259,13 +259,13 @@ fn sections_in_hex_by_hand() {
         "000000000000000300000001",
         "0060000201010060000000010000",
         "004b00010101004b000000000208",
-        "05000001000202000000",
+        "05010002020000000000",
     );
     expect(&one_train, "no 1", in_hex);
     // The unused place between two trains is written.
     let gap = figures(&[
-        (0, &[5, 0, 0, 1, 0, 2, 2, 0, 0, 0]),
-        (20, &[9, 0, 0, 1, 0, 1, 2, 0, 0, 7]),
+        (0, &[5, 1, 0, 2, 2, 0, 0, 0, 0, 0]),
+        (20, &[9, 1, 0, 1, 2, 0, 0, 0, 0, 7]),
         (PRESENT, &[2, 1]),
     ]);
     let in_hex = concat!(
@@ -273,21 +273,21 @@ fn sections_in_hex_by_hand() {
         "000000000000000000000000",
         "0000000000000000000000000000",
         "0000000000000000000000000000",
-        "05000001000202000000",
+        "05010002020000000000",
         "00000000000000000000",
-        "09000001000102000007",
+        "09010001020000000007",
     );
     expect(&gap, "no 5", in_hex);
     // Ill made: no vehicle is present, and the second place has no kind but a class.
     // Not the vehicles present but the figures of the places say what is written.
-    let ill_made = figures(&[(18, &[1]), (IN_FORCE, &[1]), (DESK_A + 4, &[13])]);
+    let ill_made = figures(&[(16, &[1]), (IN_FORCE, &[1]), (DESK_A + 4, &[13])]);
     let in_hex = concat!(
         "0001",
         "000000000000000000000000",
         "000000000d000000000000000000",
         "0000000000000000000000000000",
         "00000000000000000000",
-        "00000000000000000100",
+        "00000000000001000000",
     );
     expect(&ill_made, "no 5", in_hex);
 }
@@ -315,7 +315,7 @@ fn ill_made_sections_by_hand() {
     }));
     // One through engine of sender 3.
     let third = figures(&[
-        (0, &[3, 0, 0, 3, 0, 1, 2, 0, 1, 0]),
+        (0, &[3, 3, 0, 1, 2, 0, 1, 0, 0, 0]),
         (PRESENT, &[1, 1]),
         (DESK_A, &[0, 0, 0, 1, 1]),
         (DESK_B, &[0, 0, 0, 1, 1]),
@@ -326,7 +326,7 @@ fn ill_made_sections_by_hand() {
 #[test]
 fn line_clears_waiting_by_hand() {
     // A train of A, form 7, with a grant of 2 comes to B, where 5 wait.
-    let train = &[5, 0, 2, 1, 0, 7, 2, 0, 0, 0][..];
+    let train = &[5, 1, 0, 7, 2, 0, 0, 0, 2, 0][..];
     let receive = [0x87, 6, 2, 0, 50, 1, 0, 7];
     let at_a = (DESK_A, &[0, 9, 0, 7, 1, 1, 0, 9][..]);
     // Holds, owes and waiting are the last three figures of B's desk.
@@ -358,7 +358,7 @@ fn the_last_train_by_hand() {
         at_b,
     ]);
     let away = figures(&[
-        (0, &[9, 0, 2, 1, 0, 7, 2, 0, 0, 7]),
+        (0, &[9, 1, 0, 7, 2, 0, 0, 0, 2, 7]),
         (PRESENT, &[1, 1]),
         at_a(&[0, 10, 0, 7, 1, 1, 0, 10, 0, 0, 0, 0, 2]),
         at_b,
@@ -426,7 +426,7 @@ fn form_9999_and_a_count_at_its_largest_by_hand() {
     let through = [0x1F, 3, 1, 0, 9, 3, 1];
     let before = figures(&[(IN_FORCE, &[1]), (DESK_A, &[0, 9, 0x27, 0x0E, 11])]);
     let after = figures(&[
-        (0, &[3, 0, 0, 1, 0x27, 0x0F, 2, 0, 1, 0]),
+        (0, &[3, 1, 0x27, 0x0F, 2, 0, 1, 0, 0, 0]),
         (PRESENT, &[1, 1]),
         (DESK_A, &[0, 9, 0x27, 0x0F, 12, 1, 0, 9]),
     ]);

@@ -25,13 +25,13 @@ fn numbered() -> Section {
     };
     section.places[0] = Vehicle {
         left_on: Some(Kind::LastTrain),
-        asked: 0x21,
-        granted: 0x22,
-        sender: 0x23,
-        form: 0x2425,
-        heading: 0x26,
+        sender: 0x21,
+        form: 0x2223,
+        heading: 0x24,
         met: true,
-        class: 0x27,
+        class: 0x25,
+        asked: 0x26,
+        granted: 0x27,
         given_up: 0x28,
     };
     section.places[1] = Vehicle {
@@ -41,11 +41,11 @@ fn numbered() -> Section {
     };
     section.places[23] = Vehicle {
         left_on: Some(Kind::Open),
-        asked: 0x31,
-        sender: 0x32,
-        form: 0x3334,
-        heading: 0x35,
-        class: 0x36,
+        sender: 0x31,
+        form: 0x3233,
+        heading: 0x34,
+        class: 0x35,
+        asked: 0x36,
         ..Vehicle::default()
     };
     section.desks = [
@@ -87,10 +87,10 @@ fn round_trip(section: &Section) -> Figures {
 #[test]
 fn every_figure_stands_in_its_place() {
     let figures = round_trip(&numbered());
-    let mut expected = vec![9, 0x21, 0x22, 0x23, 0x24, 0x25, 0x26, 1, 0x27, 0x28];
-    expected.extend([5, 0x21, 0x22, 0x23, 0x24, 0x25, 0x26, 1, 0x27, 0]);
+    let mut expected = vec![9, 0x21, 0x22, 0x23, 0x24, 1, 0x25, 0x26, 0x27, 0x28];
+    expected.extend([5, 0x21, 0x22, 0x23, 0x24, 1, 0x25, 0x26, 0x27, 0]);
     expected.extend([0; 21 * 10]);
-    expected.extend([2, 0x31, 0, 0x32, 0x33, 0x34, 0x35, 0, 0x36, 0]);
+    expected.extend([2, 0x31, 0x32, 0x33, 0x34, 0, 0x35, 0x36, 0, 0]);
     expected.extend([0x12, 1, 0x13, 0x14, 0x15, 0x16]);
     expected.extend([0x17, 0x18, 0x19, 0x1A, 0x1B, 0x1C, 0x1D, 0x1E]);
     expected.extend([0x41, 0x42, 0x43, 0x44, 0x45, 1, 0x46, 0x47, 1]);
@@ -206,12 +206,12 @@ fn bytes_that_are_no_section() {
         assert_eq!(altered(place * 10 + 9, 1), None);
     }
     // Line clears on the OPEN.
-    assert_eq!(altered(23 * 10 + 2, 1), None);
+    assert_eq!(altered(23 * 10 + 8, 1), None);
     // An OPEN with 0 in every other figure.
     assert_eq!(altered(20, 2), None);
     // Met, in force, interval running, out: neither 0 nor 1.
     let [a, b] = [DESK_A, DESK_B];
-    for place in [7, IN_FORCE, a + 5, a + 8, b + 5, b + 8] {
+    for place in [5, IN_FORCE, a + 5, a + 8, b + 5, b + 8] {
         assert_eq!(altered(place, 2), None, "figure {place}");
         assert_eq!(altered(place, 255), None, "figure {place}");
     }

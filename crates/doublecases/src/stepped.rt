@@ -7,12 +7,12 @@ use figures::DOUBLE_LENGTH;
 use figures::DOUBLE_REFUSED;
 use figures::SIDE_A;
 use figures::SIDE_B;
-use figures::counts_figures;
-use figures::interval_figures;
-use figures::number_figures;
-use figures::one_if;
 use figures::put_bytes;
 use libc::STDOUT_FILENO;
+use position::counts_bytes;
+use position::in_two;
+use position::interval_bytes;
+use position::one_if;
 use step::DoubleRan;
 use step::Last;
 use working::Answer;
@@ -42,8 +42,8 @@ fn put_answer(room: &mut [u8], answer: Answer) {
     match answer {
         Answer::Refused(why) => put_bytes(room, 0, &[why.number()]),
         Answer::Accepted { form, forms, speed } => {
-            put_bytes(room, 1, &number_figures(form));
-            put_bytes(room, 3, &number_figures(forms));
+            put_bytes(room, 1, &in_two(form));
+            put_bytes(room, 3, &in_two(forms));
             put_bytes(room, 5, &speed_figures(speed));
         }
     }
@@ -55,7 +55,7 @@ fn put_numbers(room: &mut [u8], at: usize, numbers: [u16; Side::PLACES])
 {
     let mut i = 0;
     while i < Side::PLACES {
-        put_bytes(room, at + i * 2, &number_figures(numbers[i]));
+        put_bytes(room, at + i * 2, &in_two(numbers[i]));
         i += 1;
     }
 }
@@ -66,9 +66,9 @@ fn put_side(room: &mut [u8], at: usize, side: Side)
 {
     let interval = side.interval;
     let numbers = side.numbers;
-    put_bytes(room, at, &number_figures(side.clock));
-    put_bytes(room, at + 2, &number_figures(side.last));
-    put_bytes(room, at + 4, &interval_figures(interval));
+    put_bytes(room, at, &in_two(side.clock));
+    put_bytes(room, at + 2, &in_two(side.last));
+    put_bytes(room, at + 4, &interval_bytes(interval));
     put_bytes(room, at + 7, &[side.len]);
     put_numbers(room, at + 8, numbers);
 }
@@ -79,11 +79,7 @@ fn put_section(room: &mut [u8], s: Section) {
     let a = s.a;
     let b = s.b;
     put_bytes(room, ANSWER_LENGTH, &[one_if(s.force)]);
-    put_bytes(
-        room,
-        ANSWER_LENGTH + DOUBLE_REFUSED,
-        &counts_figures(counts),
-    );
+    put_bytes(room, ANSWER_LENGTH + DOUBLE_REFUSED, &counts_bytes(counts));
     put_side(room, ANSWER_LENGTH + SIDE_A, a);
     put_side(room, ANSWER_LENGTH + SIDE_B, b);
 }

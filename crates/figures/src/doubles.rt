@@ -5,10 +5,10 @@ ghost use Rattle.figures.specs.Figures.{longestHead};
 ghost use mathlib.Core.Path.{_≡_};
 use crate::heads::Head;
 use crate::heads::number_at;
-use crate::sections::counts_in;
-use crate::sections::interval_in;
+use crate::sections::counts_at;
 use double::Section;
 use double::Side;
+use position::interval_of;
 
 // Where the figures behind the first byte, in force, begin: refused, and the sides of A and B.
 pub const DOUBLE_REFUSED: usize = 1;
@@ -42,7 +42,7 @@ fn side_in(figures: &Head, at: usize) -> Side
     Side {
         clock: number_at(figures, at),
         last: number_at(figures, at + 2),
-        interval: interval_in(figures[at + 4], number_at(figures, at + 5)),
+        interval: interval_of(figures[at + 4], number_at(figures, at + 5)),
         numbers: numbers_in(figures, at + 8),
         len: figures[at + 7],
     }
@@ -54,7 +54,7 @@ pub fn double_in(figures: &Head) -> Section
 {
     Section {
         force: figures[0] == 1,
-        refused: counts_in(figures, DOUBLE_REFUSED),
+        refused: counts_at(figures, DOUBLE_REFUSED),
         a: side_in(figures, SIDE_A),
         b: side_in(figures, SIDE_B),
     }

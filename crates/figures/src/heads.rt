@@ -1,6 +1,6 @@
 // The head of a case: the bytes before its log, its bytes or its buffer.
 ghost use Prim.Native.Nat.{_*_, _+_};
-ghost use Rattle.figures.specs.Figures.{numberAt};
+ghost use Rattle.working.specs.Positions.{twoAt};
 ghost use mathlib.Core.Path.{_≡_};
 
 // The bytes of a section.
@@ -20,7 +20,7 @@ fn number(high: u8, low: u8) -> u16
 
 // The number at a place, high byte first; a byte past the head's end is 0.
 pub fn number_at(head: &Head, at: usize) -> u16
-    ensures { λ r. ⌜ r ≡ numberAt (now (head .entry)) at ⌝ }
+    ensures { λ r. ⌜ r ≡ twoAt (now (head .entry)) at ⌝ }
 {
     let bytes = &head[..];
     if bytes.len() <= at {

@@ -20,7 +20,7 @@ mod writer;
 use std::fmt::{self, Write};
 
 use crate::entry::{Entry, Table};
-use crate::figures::{digest, Figures, PLACE_LENGTH};
+use crate::figures::{digest, Figures, PLACES_LENGTH, PLACE_LENGTH};
 use crate::lister::Printed;
 use crate::log::{Reader, Writer};
 use crate::refusal::Refusal;
@@ -368,7 +368,7 @@ fn write_section(out: &mut impl Write, form: &str, section: &Section) -> fmt::Re
 /// be left out stands at the end, so that the rest is where it always is.
 fn section_in_hex(section: &Section) -> String {
     let figures = figures_of(section);
-    let (places, behind) = figures.split_at(Section::MOST_VEHICLES * PLACE_LENGTH);
+    let (places, behind) = figures.split_at(PLACES_LENGTH);
     let last = places
         .chunks(PLACE_LENGTH)
         .rposition(|place| place.iter().any(|&figure| figure != 0));

@@ -1,7 +1,7 @@
 //! The section of a double line as bytes, figure by figure, as the stored cases
 //! hold it, ill made or well made.
 
-use crate::figures::{interval_figures, refused_figures, Rest, REFUSED_LENGTH};
+use crate::figures::{interval_figures, Rest, Room, REFUSED_LENGTH};
 
 use super::section::{Desk, Section};
 
@@ -21,50 +21,48 @@ impl Section {
     #[must_use]
     pub fn figures(&self) -> Figures {
         let mut figures = [0; FIGURES_LENGTH];
-        let bytes = std::iter::once(self.in_force.into())
-            .chain(refused_figures(&self.refused))
-            .chain(self.desks.iter().flat_map(desk_figures));
-        for (figure, byte) in figures.iter_mut().zip(bytes) {
-            *figure = byte;
+        let mut room = Room::of(&mut figures);
+        room.put([self.in_force.into()]);
+        room.put_refused(&self.refused);
+        for desk in &self.desks {
+            put_desk(&mut room, desk);
         }
         figures
     }
 
-    /// The section with these figures; none where no section has them.
+    /// The section with these figures; none where no section has them: flags other
+    /// than 0 and 1, and the minute of an interval that does not run.
     #[must_use]
     pub fn from_figures(figures: &Figures) -> Option<Section> {
         let mut rest = Rest::of(figures);
-        let section = Section {
-            in_force: rest.flag(),
+        Some(Section {
+            in_force: rest.flag()?,
             refused: rest.refused(),
-            desks: std::array::from_fn(|_| read_desk(&mut rest)),
-        };
-        // A flag of 2 or the minute of an interval that does not run has not found
-        // its way into the section.
-        (section.figures() == *figures).then_some(section)
+            desks: [read_desk(&mut rest)?, read_desk(&mut rest)?],
+        })
     }
 }
 
-fn desk_figures(desk: &Desk) -> Vec<u8> {
-    let mut bytes = Vec::with_capacity(DESK_LENGTH);
-    bytes.extend(desk.clock.to_be_bytes());
-    bytes.extend(desk.last_form.to_be_bytes());
-    bytes.extend(interval_figures(desk.interval));
-    bytes.push(desk.present);
-    bytes.extend(desk.places.into_iter().flat_map(u16::to_be_bytes));
-    bytes
+fn put_desk(room: &mut Room<'_>, desk: &Desk) {
+    room.put(desk.clock.to_be_bytes());
+    room.put(desk.last_form.to_be_bytes());
+    room.put(interval_figures(desk.interval));
+    room.put([desk.present]);
+    for form in desk.places {
+        room.put(form.to_be_bytes());
+    }
 }
 
-fn read_desk(rest: &mut Rest<'_>) -> Desk {
-    let (clock, last_form, interval) = (rest.pair(), rest.pair(), rest.interval());
+fn read_desk(rest: &mut Rest<'_>) -> Option<Desk> {
+    let (clock, last_form, interval) = (rest.pair(), rest.pair(), rest.interval()?);
     let present = rest.byte();
-    Desk {
+    Some(Desk {
         clock,
         last_form,
         interval,
         places: std::array::from_fn(|_| rest.pair()),
         present,
-    }
+    })
 }
 
 #[cfg(test)]

@@ -3,7 +3,7 @@
 use Prim.Native.Nat.{_+_, _≤_, ℕ}
 use Rattle.figures.proofs.heads.number_at.Statement.{statement}
 use Rattle.figures.proofs.heads.number_at.Tie as tie
-use Rattle.figures.specs.Figures.{byteAt, numberAt}
+use Rattle.working.specs.Positions.{byteAt}
 use borrow.Author.Needs.{needs}
 use lib.ListN.{List·getD-eq-default, length}
 use mathlib.Core.List.{List}

@@ -2,8 +2,7 @@
 -- Assumes nothing.
 use Rattle.figures.proofs.section_written.is_unused.Statement.{statement}
 use Rattle.figures.proofs.section_written.is_unused.Tie as tie
-use Rattle.figures.specs.Figures.{byteAt}
-use Rattle.figures.specs.Written.{movementFigures}
+use Rattle.working.specs.Positions.{byteAt, movementBytes, vehicleBytes}
 use Rattle.working.specs.WellMade.{isBlankMovement}
 use Rattle.working.specs.declared.Movement.the-variants.{LastTrain, Open, Return, Through, Train}
 use Rattle.working.specs.declared.Movement.{Movement}
@@ -12,7 +11,7 @@ use lib.Dec.{eqb}
 use mathlib.Core.Bool.{_&&_, and-assoc, and-true}
 use mathlib.Core.Path.{_≡_, refl}
 
-opens : (m : Movement) → eqb (byteAt (movementFigures m) 0) 2 && eqb (byteAt (movementFigures m) 1) 0 ≡ isBlankMovement m
+opens : (m : Movement) → eqb (byteAt (movementBytes m) 0) 2 && eqb (byteAt (movementBytes m) 1) 0 ≡ isBlankMovement m
 opens (Open asked) = refl
 opens Through = refl
 opens (Return asked granted) = refl
@@ -20,6 +19,7 @@ opens (Train asked granted) = refl
 opens (LastTrain asked granted givenUp) = refl
 
 returns : tie.Need-returns
+unfolding vehicleBytes
 returns c =
     let start = c .before .before .before .before .before in
     rw (start .pre, opens (start .args .v .movement)) (simp (and-assoc, and-true))

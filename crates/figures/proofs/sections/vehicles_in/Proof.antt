@@ -24,8 +24,8 @@ loop-again c =
     let l = turn .loop in (
       omega arith,
       simp length-set (l .inv .1),
-      place-more (vehicleAt (turn .before .before .args .figures .now)) 10 unused (l .i) 0 (l .places) (c .vehicle-in .result) (omega arith) (l .inv .2)
-          (rw zero-add (sym (c .vehicle-in .ensures))),
+      place-more (vehicleAt (turn .before .before .args .figures .now)) 10 unused (l .i) 0 (l .places) (c .vehicle-at .result) (omega arith) (l .inv .2)
+          (rw zero-add (sym (c .vehicle-at .ensures))),
     )
 
 returns : tie.Need-returns Inv-loop μ-loop

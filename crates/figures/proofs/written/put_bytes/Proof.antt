@@ -4,27 +4,22 @@ use Prim.Native.Nat.{_+_, _-_, _<_, _≤_, ℕ}
 use Rattle.figures.proofs.written.put_bytes.Statement.{statement}
 use Rattle.figures.proofs.written.put_bytes.Tie as tie
 use Rattle.figures.specs.Written.{putAt}
+use Rattle.position.proofs.Copies.{in-tail}
+use Rattle.working.specs.Entries.{pasted}
 use borrow.Author.Needs.{needs}
 use borrow.Author.Tests.{le-leb, lt-leb}
-use lib.ListN.{drop, drop-of-length-le, length, length-drop, take}
-use lib.Seq.{drop-drop, take-all}
-use mathlib.Core.List.{List, _++_, append-nil}
-use mathlib.Core.Path.{_≡_}
+use lib.ListN.{length, length-drop}
+use mathlib.Core.List.{List}
+use mathlib.Core.Path.{_∙_, _≡_}
 use native.Mathlib.Omega.{arith}
 
 no-room : (room bytes : List ℕ) (at : ℕ) → length room < at + length bytes → room ≡ putAt room at bytes
 unfolding putAt
 no-room room bytes at h = rw (lt-leb (at + length bytes) (length room) h)
 
--- with room for the bytes, and k the length of the tail
-in-tail : (room bytes : List ℕ) (at k : ℕ) → at + length bytes ≤ length room → k ≡ length (drop at room)
-    → take at room ++ ((take (length bytes) bytes ++ drop (length bytes) (take k (drop at room))) ++ drop k (drop at room)) ≡ putAt room at bytes
+room-for : (room bytes : List ℕ) (at : ℕ) → at + length bytes ≤ length room → pasted room at bytes ≡ putAt room at bytes
 unfolding putAt
-in-tail room bytes at k fits tail =
-    let all : take (length bytes) bytes ≡ bytes = take-all (length bytes) bytes (omega arith) in
-    let whole : length (drop at room) ≤ k = omega arith in
-    rw (le-leb (at + length bytes) (length room) fits)
-    (simp (all, take-all k (drop at room) whole, drop-of-length-le (drop at room) whole, append-nil, drop-drop))
+room-for room bytes at h = rw (le-leb (at + length bytes) (length room) h)
 
 returns : tie.Need-returns
 returns c =
@@ -41,8 +36,9 @@ returns-3 c =
     let copied = c .before .before in
     let args = copied .before .before .before .before .before .before .args in
     let room = args .room .now in
+    let bytes = args .bytes .now in
     rw (copied .copy .ensures .1)
-    (in-tail room (args .bytes .now) (args .at) (length room - args .at) (omega arith) (omega (arith, length-drop (args .at) room)))
+    (in-tail room bytes (args .at) (length room - args .at) (omega arith) (omega (arith, length-drop (args .at) room)) ∙ room-for room bytes (args .at) (omega arith))
 
 pub put-bytes-spec : {M : Type 1} → statement M
 put-bytes-spec =

@@ -1,6 +1,7 @@
 /* Calls every function of lupinshift.h as a host might that is careless: with NULL and length 0, with buffers that are a place too
-   short, and with a listing taken in blocks of many lengths. What is refused must alter nothing. The figures of a last line must stand
-   at their places. Reads a log from standard input and says what differs. */
+   short, and with a listing taken in blocks of many lengths. What is refused must alter nothing, but for the count of an entry that a step
+   refuses. The figures of a last line and those of a position must stand at their places. Reads a log from standard input and says what
+   differs. */
 #include <stdio.h>
 #include <stdlib.h>
 #include <string.h>
@@ -8,6 +9,14 @@
 #include "lupinshift.h"
 
 #define BEFORE 0xAA
+
+/* A name as a slice: its letters, without the zero behind them. */
+#define NAMED(letters) (const uint8_t *)(letters), sizeof(letters) - 1
+
+_Static_assert(LUPIN_AT_VEHICLE(LUPIN_VEHICLES) == LUPIN_AT_IN_FORCE, "the places of the vehicles");
+_Static_assert(LUPIN_AT_DESK_A + LUPIN_DESK == LUPIN_AT_DESK_B && LUPIN_AT_DESK_B + LUPIN_DESK == LUPIN_POSITION, "the desks");
+_Static_assert(LUPIN_SHELF_PLACE == LUPIN_LONGEST_NAME + LUPIN_POSITION, "a place of the shelf");
+_Static_assert(LUPIN_SHELF == LUPIN_SHELF_PLACES * LUPIN_SHELF_PLACE, "the shelf");
 
 static int failures;
 
@@ -20,10 +29,10 @@ static void expect(int holds, const char *what)
 }
 
 /* Whether the bytes from a place on are as they were. */
-static int untouched(const uint8_t *out, size_t from, size_t to)
+static int untouched(const void *out, size_t from, size_t to)
 {
     while (from < to)
-        if (out[from++] != BEFORE)
+        if (((const uint8_t *)out)[from++] != BEFORE)
             return 0;
     return 1;
 }
@@ -31,7 +40,7 @@ static int untouched(const uint8_t *out, size_t from, size_t to)
 /* The same of numbers, of which each byte was set. */
 static int kept(const uint64_t *numbers, size_t from, size_t to)
 {
-    return untouched((const uint8_t *)(numbers + from), 0, (to - from) * sizeof *numbers);
+    return untouched(numbers + from, 0, (to - from) * sizeof *numbers);
 }
 
 static void no_places(void)
@@ -165,6 +174,195 @@ static void in_blocks(const uint8_t *log, size_t len, const uint8_t *listing, si
     expect(at == length, "lupin_fill, all blocks");
 }
 
+static const uint8_t begin[] = {0x01, LUPIN_BEGIN};
+
+/* A position that is none or a place too short, too few numbers, and what a refused and an accepted entry alter. */
+static void steps(void)
+{
+    uint8_t position[LUPIN_POSITION + 1] = {0}, after[sizeof position];
+    uint32_t answer[LUPIN_ANSWER + 1];
+
+    position[LUPIN_POSITION] = BEFORE;
+    memcpy(after, position, sizeof after);
+    memset(answer, BEFORE, sizeof answer);
+    expect(lupin_step(NULL, 0, NULL, 0, NULL, 0) == LUPIN_NO_POSITION, "lupin_step, nothing");
+    expect(lupin_step(NULL, 0, begin, sizeof begin, answer, LUPIN_ANSWER) == LUPIN_NO_POSITION, "lupin_step, no position");
+    expect(lupin_step(position, LUPIN_POSITION - 1, begin, sizeof begin, answer, LUPIN_ANSWER) == LUPIN_NO_POSITION, "lupin_step, a byte too few");
+    expect(lupin_step(position, LUPIN_POSITION + 1, begin, sizeof begin, answer, LUPIN_ANSWER) == LUPIN_NO_POSITION, "lupin_step, a byte too many");
+    expect(lupin_step(position, LUPIN_POSITION, begin, sizeof begin, NULL, 0) == LUPIN_BUFFER_TOO_SHORT, "lupin_step, no numbers");
+    expect(lupin_step(position, LUPIN_POSITION, begin, sizeof begin, answer, LUPIN_ANSWER - 1) == LUPIN_BUFFER_TOO_SHORT, "lupin_step, a number too few");
+    expect(memcmp(position, after, sizeof after) == 0 && untouched(answer, 0, sizeof answer), "lupin_step, 26 and 23: nothing altered");
+
+    after[LUPIN_AT_REFUSED_OF_NONE + 3] = 2;
+    expect(lupin_step(position, LUPIN_POSITION, NULL, 0, answer, LUPIN_ANSWER) == LUPIN_ENDS_INSIDE, "lupin_step, no entry");
+    expect(lupin_step(position, LUPIN_POSITION, begin, 1, answer, LUPIN_ANSWER + 1) == LUPIN_ENDS_INSIDE, "lupin_step, an entry that is cut");
+    expect(memcmp(position, after, sizeof after) == 0 && untouched(answer, 0, sizeof answer), "lupin_step, 1: counted, and nothing else altered");
+
+    after[LUPIN_AT_IN_FORCE] = 1;
+    expect(lupin_step(position, LUPIN_POSITION, begin, sizeof begin, answer, LUPIN_ANSWER + 1) == LUPIN_DONE, "lupin_step, BEGIN");
+    expect(memcmp(position, after, sizeof after) == 0, "lupin_step, BEGIN: the position");
+    expect(answer[LUPIN_ANSWER_NUMBER] == 0 && answer[LUPIN_ANSWER_FORMS] == 0 && answer[LUPIN_ANSWER_SPEED] == LUPIN_NO_SPEED, "lupin_step, BEGIN: the answer");
+    expect(untouched(answer + LUPIN_ANSWER, 0, sizeof *answer), "lupin_step, BEGIN: the number behind the answer");
+}
+
+/* The first eight entries of examples/given-up.hex, and what answers each. */
+static const uint8_t given_up[] = {
+    0x01, 1,                    /* BEGIN */
+    0x3F, 2, 1, 0, 10, 1, 1, 4, /* OPEN, asks for 4 */
+    0x87, 6, 2, 0, 70, 1, 0, 1, /* RECEIVE */
+    0x67, 4, 2, 0, 75, 2, 4,    /* RETURN, asks for 2, grants 4 */
+    0x87, 6, 1, 0, 95, 2, 0, 1, /* RECEIVE */
+    0x0F, 5, 1, 0, 96, 1,       /* TRAIN */
+    0x4F, 9, 1, 0, 126, 1, 2,   /* LAST TRAIN, grants 2 */
+    0x0F, 5, 1, 0, 156, 1,      /* TRAIN: 15, for A */
+};
+static const uint32_t answers[] = {0, 0, 0, 0, 0, 0, 0, LUPIN_NO_LINE_CLEAR};
+
+/* What stands in the position behind them that is not zero, as in docs/FORMAT.md. */
+static const uint8_t vehicles[] = {LUPIN_LAST_TRAIN, LUPIN_A, 0, 3, LUPIN_B, 0, 0, 0, 2, 2, LUPIN_TRAIN, LUPIN_A, 0, 2, LUPIN_B};
+static const uint8_t desk_a[LUPIN_DESK] = {0, 126, 0, 3, 2, 1, 0, 126, 0, 0, 0, 0, 2, 0};
+static const uint8_t desk_b[LUPIN_DESK] = {0, 75, 0, 1, 1, 1, 0, 75, 0, 0, 0, 0, 4, 0};
+
+/* Each part of a position, and each number of an answer, at its place. The answer is that of the last entry accepted. */
+static void every_part(void)
+{
+    uint8_t position[LUPIN_POSITION] = {0}, wanted[LUPIN_POSITION] = {0};
+    uint32_t answer[LUPIN_ANSWER];
+    size_t at = 0, entry;
+
+    for (entry = 0; entry < sizeof answers / sizeof *answers; entry++) {
+        expect(lupin_step(position, sizeof position, given_up + at, sizeof given_up - at, answer, LUPIN_ANSWER) == answers[entry], "lupin_step, every part: an answer");
+        at += lupin_entry_length(given_up[at]);
+    }
+    expect(at == sizeof given_up, "lupin_entry_length, every part");
+    expect(answer[LUPIN_ANSWER_NUMBER] == 3 && answer[LUPIN_ANSWER_FORMS] == (LUPIN_TF_602 | LUPIN_TG_602 | LUPIN_T369_3B | LUPIN_T409), "lupin_step, every part: form number and forms");
+    expect(LUPIN_SPEED_CASE(answer[LUPIN_ANSWER_SPEED]) == LUPIN_KMH && LUPIN_SPEED_KMH(answer[LUPIN_ANSWER_SPEED]) == 25, "lupin_step, every part: the speed");
+    memcpy(wanted + LUPIN_AT_VEHICLES, vehicles, sizeof vehicles);
+    wanted[LUPIN_AT_IN_FORCE] = 1;
+    wanted[LUPIN_AT_REFUSED_FOR_A + 3] = 1;
+    memcpy(wanted + LUPIN_AT_DESK_A, desk_a, sizeof desk_a);
+    memcpy(wanted + LUPIN_AT_DESK_B, desk_b, sizeof desk_b);
+    expect(memcmp(position, wanted, sizeof wanted) == 0, "lupin_step, every part of a position");
+}
+
+/* A store that is refused for each reason, and one that is not. */
+static void stores(void)
+{
+    static uint8_t shelf[LUPIN_SHELF + 1], after[sizeof shelf];
+    static const uint8_t fresh[LUPIN_POSITION + 1];
+    uint8_t letter[1];
+
+    shelf[LUPIN_SHELF] = BEFORE;
+    memcpy(after, shelf, sizeof after);
+    expect(lupin_store(NULL, 0, NULL, 0, NULL, 0) == LUPIN_ILL_MADE, "lupin_store, nothing");
+    expect(lupin_store(NULL, 0, NAMED("CLASS"), fresh, LUPIN_POSITION) == LUPIN_ILL_MADE, "lupin_store, no shelf");
+    expect(lupin_store(shelf, LUPIN_SHELF - 1, NAMED("CLASS"), fresh, LUPIN_POSITION) == LUPIN_ILL_MADE, "lupin_store, a byte too few");
+    expect(lupin_store(shelf, LUPIN_SHELF + 1, NAMED("CLASS"), fresh, LUPIN_POSITION) == LUPIN_ILL_MADE, "lupin_store, a byte too many");
+    expect(lupin_store(shelf, LUPIN_SHELF, NULL, 0, fresh, LUPIN_POSITION) == LUPIN_UNKNOWN_NAME, "lupin_store, no name");
+    expect(lupin_store(shelf, LUPIN_SHELF, NAMED("CLASS\0"), fresh, LUPIN_POSITION) == LUPIN_UNKNOWN_NAME, "lupin_store, a zero behind the name");
+    expect(lupin_store(shelf, LUPIN_SHELF, NAMED("CLASS"), NULL, 0) == LUPIN_NO_POSITION, "lupin_store, no position");
+    expect(lupin_store(shelf, LUPIN_SHELF, NAMED("CLASS"), fresh, LUPIN_POSITION - 1) == LUPIN_NO_POSITION, "lupin_store, a position's byte too few");
+    expect(lupin_store(shelf, LUPIN_SHELF, NAMED("CLASS"), fresh, LUPIN_POSITION + 1) == LUPIN_NO_POSITION, "lupin_store, a position's byte too many");
+    expect(memcmp(shelf, after, sizeof after) == 0, "lupin_store, refused: nothing altered");
+
+    memcpy(after, "CLASS", 5);
+    expect(lupin_store(shelf, LUPIN_SHELF, NAMED("CLASS"), fresh, LUPIN_POSITION) == LUPIN_DONE, "lupin_store, a name");
+    expect(memcmp(shelf, after, sizeof after) == 0, "lupin_store, a name: the shelf");
+    for (letter[0] = 'A'; letter[0] < 'P'; letter[0]++)
+        expect(lupin_store(shelf, LUPIN_SHELF, letter, 1, fresh, LUPIN_POSITION) == LUPIN_DONE, "lupin_store, up to sixteen names");
+    memcpy(after, shelf, sizeof after);
+    expect(lupin_store(shelf, LUPIN_SHELF, letter, 1, NULL, 0) == LUPIN_SHELF_FULL, "lupin_store, a seventeenth name");
+    expect(lupin_store(shelf, LUPIN_SHELF, NAMED("CLASS"), fresh, LUPIN_POSITION) == LUPIN_DONE, "lupin_store, a used name on a full shelf");
+    expect(memcmp(shelf, after, sizeof after) == 0, "lupin_store, a full shelf: as it was");
+}
+
+/* The same of a fetch. */
+static void fetches(void)
+{
+    static uint8_t shelf[LUPIN_SHELF], after[LUPIN_SHELF];
+    uint8_t position[LUPIN_POSITION] = {0}, buffer[LUPIN_POSITION + 1];
+
+    memset(buffer, BEFORE, sizeof buffer);
+    position[LUPIN_AT_REFUSED_FOR_B] = 1;
+    expect(lupin_store(shelf, sizeof shelf, NAMED("CLASS"), position, sizeof position) == LUPIN_DONE, "lupin_store, a count");
+    memcpy(after, shelf, sizeof after);
+    expect(lupin_fetch(NULL, 0, NULL, 0, NULL, 0) == LUPIN_ILL_MADE, "lupin_fetch, nothing");
+    expect(lupin_fetch(NULL, 0, NAMED("CLASS"), buffer, sizeof buffer) == LUPIN_ILL_MADE, "lupin_fetch, no shelf");
+    expect(lupin_fetch(shelf, sizeof shelf - 1, NAMED("CLASS"), buffer, sizeof buffer) == LUPIN_ILL_MADE, "lupin_fetch, a byte too few");
+    expect(lupin_fetch(shelf, sizeof shelf, NULL, 0, buffer, sizeof buffer) == LUPIN_UNKNOWN_NAME, "lupin_fetch, no name");
+    expect(lupin_fetch(shelf, sizeof shelf, NAMED("CLAS"), buffer, sizeof buffer) == LUPIN_UNKNOWN_NAME, "lupin_fetch, a name not on the shelf");
+    expect(lupin_fetch(shelf, sizeof shelf, NAMED("CLASS"), NULL, 0) == LUPIN_BUFFER_TOO_SHORT, "lupin_fetch, no buffer");
+    expect(lupin_fetch(shelf, sizeof shelf, NAMED("CLASS"), buffer, LUPIN_POSITION - 1) == LUPIN_BUFFER_TOO_SHORT, "lupin_fetch, a buffer's byte too few");
+    expect(untouched(buffer, 0, sizeof buffer), "lupin_fetch, refused: nothing altered");
+    expect(lupin_fetch(shelf, sizeof shelf, NAMED("CLASS"), buffer, sizeof buffer) == LUPIN_DONE, "lupin_fetch, a name");
+    expect(memcmp(buffer, position, sizeof position) == 0 && untouched(buffer, LUPIN_POSITION, sizeof buffer), "lupin_fetch, a name: the buffer");
+    expect(memcmp(shelf, after, sizeof after) == 0, "lupin_fetch: the shelf");
+}
+
+/* Entries written from fields: what is refused, and that it alters nothing. */
+static void written(void)
+{
+    uint16_t fields[LUPIN_FIELDS + 1] = {LUPIN_MAP_BEGIN, LUPIN_BEGIN};
+    uint8_t entry[LUPIN_LONGEST_ENTRY];
+
+    fields[LUPIN_FIELDS] = 7;
+    memset(entry, BEFORE, sizeof entry);
+    expect(lupin_write_entry(NULL, 0, NULL, 0) == LUPIN_BUFFER_TOO_SHORT, "lupin_write_entry, nothing");
+    expect(lupin_write_entry(NULL, 0, entry, sizeof entry) == LUPIN_BUFFER_TOO_SHORT, "lupin_write_entry, no fields");
+    expect(lupin_write_entry(fields, LUPIN_FIELDS - 1, entry, sizeof entry) == LUPIN_BUFFER_TOO_SHORT, "lupin_write_entry, a field too few");
+    expect(lupin_write_entry(fields, LUPIN_FIELDS, NULL, 0) == LUPIN_BUFFER_TOO_SHORT, "lupin_write_entry, no bytes");
+    expect(lupin_write_entry(fields, LUPIN_FIELDS, entry, sizeof begin - 1) == LUPIN_BUFFER_TOO_SHORT, "lupin_write_entry, a byte too few");
+    fields[LUPIN_FIELD_MAP] += 256;
+    expect(lupin_write_entry(fields, LUPIN_FIELDS, entry, sizeof entry) == LUPIN_WRONG_MAP, "lupin_write_entry, a map above 255");
+    fields[LUPIN_FIELD_KIND] += 256;
+    expect(lupin_write_entry(fields, LUPIN_FIELDS, NULL, 0) == LUPIN_UNKNOWN_KIND, "lupin_write_entry, a kind above 255");
+    fields[LUPIN_FIELD_MAP] = LUPIN_MAP_BEGIN;
+    fields[LUPIN_FIELD_KIND] = LUPIN_BEGIN;
+    fields[LUPIN_FIELD_STATION] = 256;
+    expect(lupin_write_entry(fields, LUPIN_FIELDS, NULL, 0) == LUPIN_OUT_OF_RANGE, "lupin_write_entry, a station above 255");
+    expect(untouched(entry, 0, sizeof entry), "lupin_write_entry, refused: nothing altered");
+    fields[LUPIN_FIELD_STATION] = 0;
+    expect(lupin_write_entry(fields, LUPIN_FIELDS + 1, entry, sizeof entry) == LUPIN_DONE, "lupin_write_entry, BEGIN");
+    expect(memcmp(entry, begin, sizeof begin) == 0 && untouched(entry, sizeof begin, sizeof entry), "lupin_write_entry, BEGIN: the bytes");
+}
+
+/* Entries read into fields likewise, and the length by every map. */
+static void read_back(void)
+{
+    static const size_t sizes[] = {1, 1, 2, 1, 1, 1, 1, 3};
+    static const uint16_t wanted[LUPIN_FIELDS] = {LUPIN_MAP_BEGIN, LUPIN_BEGIN};
+    uint16_t fields[LUPIN_FIELDS + 1];
+    unsigned map, bit;
+
+    memset(fields, BEFORE, sizeof fields);
+    expect(lupin_read_entry(NULL, 0, NULL, 0) == LUPIN_BUFFER_TOO_SHORT, "lupin_read_entry, nothing");
+    expect(lupin_read_entry(begin, sizeof begin, NULL, 0) == LUPIN_BUFFER_TOO_SHORT, "lupin_read_entry, no fields");
+    expect(lupin_read_entry(begin, sizeof begin, fields, LUPIN_FIELDS - 1) == LUPIN_BUFFER_TOO_SHORT, "lupin_read_entry, a field too few");
+    expect(lupin_read_entry(NULL, 0, fields, LUPIN_FIELDS) == LUPIN_ENDS_INSIDE, "lupin_read_entry, no bytes");
+    expect(lupin_read_entry(begin, sizeof begin - 1, fields, LUPIN_FIELDS) == LUPIN_ENDS_INSIDE, "lupin_read_entry, a byte too few");
+    expect(untouched(fields, 0, sizeof fields), "lupin_read_entry, refused: nothing altered");
+    expect(lupin_read_entry(begin, sizeof begin, fields, LUPIN_FIELDS + 1) == LUPIN_DONE, "lupin_read_entry, BEGIN");
+    expect(memcmp(fields, wanted, sizeof wanted) == 0 && untouched(fields + LUPIN_FIELDS, 0, sizeof *fields), "lupin_read_entry, BEGIN: the fields");
+    for (map = 0; map < 256; map++) {
+        size_t length = 1;
+
+        for (bit = 0; bit < 8; bit++)
+            length += map >> bit & 1 ? sizes[bit] : 0;
+        expect(lupin_entry_length((uint8_t)map) == length, "lupin_entry_length");
+    }
+}
+
+/* The functions that are given no log. */
+static void on_positions(void)
+{
+    steps();
+    every_part();
+    stores();
+    fetches();
+    written();
+    read_back();
+}
+
 int main(int argc, char **argv)
 {
     static uint8_t log[LUPIN_LONGEST_LOG + 1];
@@ -190,6 +388,7 @@ int main(int argc, char **argv)
     }
     no_places();
     every_figure();
+    on_positions();
     short_buffers(log, len, out);
     length = lupin_list(log, len, listing, room);
     for (size = LUPIN_LONGEST_LINE; size < 2 * LUPIN_LONGEST_LINE; size++)

@@ -1,10 +1,15 @@
 /* The register desk core for a host in C: link target/staticlib/liblupinshift.a, which `rt staticlib lupinshift` builds.
+   All of it is of a single line.
 
    A slice is a pointer to its first place and how many places it has. Where it has none the pointer is not looked at and may be NULL.
    Slices that a function alters overlap no other slice of the call. No call keeps a pointer, allocates, or has a state of its own.
 
-   One rule holds for every buffer: where a call is refused the answer is 0 and no place of any buffer is altered; where it is not,
-   what is put stands at the front, and the places behind it keep their values. */
+   There are two sorts of functions. Those on a log answer how many places they have put, and 0 where they are refused; lupin_answer and
+   lupin_taken are lent no buffer and never refused. Those on a position, a shelf or an entry answer 0 where all is well, and where it is
+   not the number of the refusal (enum lupin_refusal); lupin_entry_length has none.
+
+   One rule holds for every buffer: where a call is refused no place of any buffer is altered; where it is not, what is put stands at the
+   front, and the places behind it keep their values. The one exception: an entry that lupin_step refuses is counted in the position. */
 #ifndef LUPINSHIFT_H
 #define LUPINSHIFT_H
 
@@ -81,6 +86,239 @@ uint32_t lupin_answer(const uint8_t *log, size_t log_len);
 /* How many entries of the log are taken: whole, of a known kind, with the right map and the fields in range. After refusals 2, 3 and 4
    reading goes on behind the entry, after 1 it stops. A log of any length is read, and nothing is stepped. */
 size_t lupin_taken(const uint8_t *log, size_t log_len);
+
+/* ---- A section kept between entries: positions, a shelf of them, and the step in them. docs/FORMAT.md has the layouts. */
+
+/* A refusal's number. A call gives the first in its own order that holds. "Here" is the station of the entry. */
+enum lupin_refusal {
+    LUPIN_DONE = 0,               /* no refusal */
+    LUPIN_ENDS_INSIDE = 1,        /* the bytes end inside an entry, or there are none */
+    LUPIN_UNKNOWN_KIND = 2,       /* there is no kind, or none of 1 to 9 */
+    LUPIN_WRONG_MAP = 3,          /* the map is not of the kind */
+    LUPIN_OUT_OF_RANGE = 4,       /* a field lies outside its range */
+    LUPIN_ILL_MADE = 5,           /* the shelf is none; in a listing, the section is not well made */
+    LUPIN_ALREADY_IN_FORCE = 6,   /* BEGIN while the working is in force */
+    LUPIN_NOT_IN_FORCE = 7,       /* any other entry while it is not */
+    LUPIN_VEHICLE_PRESENT = 8,    /* RESUME while a vehicle is in the section */
+    LUPIN_BEFORE_CLOCK = 9,       /* the time is before this station's last accepted entry */
+    LUPIN_OPENER_AWAY = 10,       /* OPEN, THROUGH: this station's own opener is away */
+    LUPIN_HOLDS_LINE_CLEAR = 11,  /* OPEN, THROUGH, RETURN: line clears are held here */
+    LUPIN_OWES_LINE_CLEAR = 12,   /* OPEN, THROUGH: line clears given here are still owed */
+    LUPIN_GUEST_HERE = 13,        /* OPEN, THROUGH: the other station's opener stands here */
+    LUPIN_NO_GUEST = 14,          /* RETURN: no opener of the other station stands here */
+    LUPIN_NO_LINE_CLEAR = 15,     /* TRAIN, LAST TRAIN: no line clear is held here */
+    LUPIN_GRANT_NOT_ALLOWED = 16, /* more is granted than was asked; or a TRAIN or LAST TRAIN grants while line clears are owed here */
+    LUPIN_TWELVE_SENT = 17,       /* twelve departures are counted here */
+    LUPIN_FORMS_USED = 18,        /* form number 9,999 is used */
+    LUPIN_INTERVAL_RUNNING = 19,  /* the last departure was under 30 minutes ago */
+    LUPIN_NOT_NEAREST = 20,       /* RECEIVE: no vehicle is in the section, or the nearest is not the one named */
+    LUPIN_MAY_NOT_ENTER = 21,     /* RECEIVE: the vehicle may not enter here */
+    LUPIN_MAY_NOT_MEET = 22,      /* MEET: the vehicle named is not there, or there is none that it may meet */
+    LUPIN_BUFFER_TOO_SHORT = 23,  /* fewer places are lent than are put or read */
+    LUPIN_UNKNOWN_NAME = 24,      /* the name is not 1 to 12 capital letters, or on a fetch not on the shelf */
+    LUPIN_SHELF_FULL = 25,        /* the name would be the seventeenth */
+    LUPIN_NO_POSITION = 26        /* the bytes are not the position of a well-made section */
+};
+
+/* A position is the section in LUPIN_POSITION bytes; numbers of two and four bytes are high byte first. The fresh section is all zeros.
+   A well-made section has one position, and no other section has any. */
+#define LUPIN_POSITION 281
+
+/* Where each part of a position lies. */
+enum lupin_at {
+    LUPIN_AT_VEHICLES = 0,          /* the places of the vehicles, in order from A to B */
+    LUPIN_AT_IN_FORCE = 240,        /* 1 in force, else 0 */
+    LUPIN_AT_REFUSED_FOR_A = 241,   /* entries refused for A, four bytes */
+    LUPIN_AT_REFUSED_FOR_B = 245,   /* the same of B */
+    LUPIN_AT_REFUSED_OF_NONE = 249, /* the same of no station */
+    LUPIN_AT_DESK_A = 253,
+    LUPIN_AT_DESK_B = 267
+};
+
+/* How many places for vehicles there are, the bytes of one, and where the one with a number lies, counted from A and from 0. The
+   vehicles present are the places before the first whose kind is 0; from there on all places are zero. */
+#define LUPIN_VEHICLES 24
+#define LUPIN_VEHICLE 10
+#define LUPIN_AT_VEHICLE(number) (LUPIN_AT_VEHICLES + LUPIN_VEHICLE * (number))
+
+/* Where each figure lies in the place of a vehicle. One that its kind has not is 0. */
+enum lupin_vehicle {
+    LUPIN_VEHICLE_KIND = 0,   /* LUPIN_OPEN, LUPIN_THROUGH, LUPIN_RETURN, LUPIN_TRAIN or LUPIN_LAST_TRAIN; 0 in an unused place */
+    LUPIN_VEHICLE_SENDER = 1, /* the station that it left */
+    LUPIN_VEHICLE_FORM = 2,   /* its form number, two bytes */
+    LUPIN_VEHICLE_HEADING = 4,
+    LUPIN_VEHICLE_MET = 5, /* 1 or 0 */
+    LUPIN_VEHICLE_CLASS = 6,
+    LUPIN_VEHICLE_ASKED = 7,
+    LUPIN_VEHICLE_GRANTED = 8,
+    LUPIN_VEHICLE_GIVEN_UP = 9 /* line clears given up with a LAST TRAIN */
+};
+
+/* The bytes of a desk, and where each figure lies in it. */
+#define LUPIN_DESK 14
+enum lupin_desk {
+    LUPIN_DESK_CLOCK = 0,   /* the minute of its last accepted entry, two bytes */
+    LUPIN_DESK_LAST = 2,    /* its last form number, two bytes */
+    LUPIN_DESK_SENT = 4,    /* departures counted */
+    LUPIN_DESK_RUNNING = 5, /* 1 where the interval runs, else 0 */
+    LUPIN_DESK_SINCE = 6,   /* and the minute since which it runs, two bytes, else 0 */
+    LUPIN_DESK_OUT = 8,     /* 1 where its own opener is away, else 0 */
+    LUPIN_DESK_GUEST = 9,   /* the class of the other station's opener that stands here, 0 for none */
+    LUPIN_DESK_ASKED = 10,
+    LUPIN_DESK_HOLDS = 11,
+    LUPIN_DESK_OWES = 12,
+    LUPIN_DESK_WAITING = 13 /* line clears that wait until it owes none */
+};
+
+/* The shelf: its bytes, its places, the bytes of one, and the longest name. A place is a name of 1 to LUPIN_LONGEST_NAME capital letters,
+   A to Z in ASCII, zeros up to that many bytes, and a position. The used places come first, in the order in which their names were first
+   stored, no name stands there twice, and all behind them is zero. The empty shelf is all zeros. */
+#define LUPIN_SHELF 4688
+#define LUPIN_SHELF_PLACES 16
+#define LUPIN_SHELF_PLACE 293
+#define LUPIN_LONGEST_NAME 12
+
+/* The fields of an entry as numbers: how many there are, and the place of each. One that the map has no bit for is 0. */
+#define LUPIN_FIELDS 10
+enum lupin_field {
+    LUPIN_FIELD_MAP,     /* enum lupin_map */
+    LUPIN_FIELD_KIND,    /* enum lupin_kind */
+    LUPIN_FIELD_STATION, /* enum lupin_station */
+    LUPIN_FIELD_TIME,    /* 0 to 65,535 minutes on that station's clock */
+    LUPIN_FIELD_VIEW,    /* enum lupin_view */
+    LUPIN_FIELD_CLASS,   /* enum lupin_class */
+    LUPIN_FIELD_ASKED,   /* 1 to 8 */
+    LUPIN_FIELD_GRANTED, /* 1 to 8 */
+    LUPIN_FIELD_SENDER,  /* of the form named: enum lupin_station */
+    LUPIN_FIELD_NUMBER   /* of the form named: 1 to 9,999 */
+};
+
+/* The room that any entry takes that may be written, in bytes. */
+#define LUPIN_LONGEST_ENTRY 8
+
+/* The bits of a map, and the bits that must stand for each kind. For a RETURN, a TRAIN and a LAST TRAIN, LUPIN_HAS_ASKED and
+   LUPIN_HAS_GRANTED may stand besides; no other bit may. */
+enum lupin_map {
+    LUPIN_HAS_KIND = 0x01,
+    LUPIN_HAS_STATION = 0x02,
+    LUPIN_HAS_TIME = 0x04,
+    LUPIN_HAS_VIEW = 0x08,
+    LUPIN_HAS_CLASS = 0x10,
+    LUPIN_HAS_ASKED = 0x20,
+    LUPIN_HAS_GRANTED = 0x40,
+    LUPIN_HAS_FORM = 0x80, /* sender and number */
+    LUPIN_MAP_BEGIN = 0x01,
+    LUPIN_MAP_OPEN = 0x3F,
+    LUPIN_MAP_THROUGH = 0x1F,
+    LUPIN_MAP_RETURN = 0x07,
+    LUPIN_MAP_TRAIN = 0x0F,
+    LUPIN_MAP_RECEIVE = 0x87,
+    LUPIN_MAP_MEET = 0x83,
+    LUPIN_MAP_RESUME = 0x01,
+    LUPIN_MAP_LAST_TRAIN = 0x0F
+};
+
+enum lupin_kind {
+    LUPIN_BEGIN = 1,
+    LUPIN_OPEN = 2,
+    LUPIN_THROUGH = 3,
+    LUPIN_RETURN = 4,
+    LUPIN_TRAIN = 5,
+    LUPIN_RECEIVE = 6,
+    LUPIN_MEET = 7,
+    LUPIN_RESUME = 8,
+    LUPIN_LAST_TRAIN = 9
+};
+
+enum lupin_station {
+    LUPIN_A = 1,
+    LUPIN_B = 2
+};
+
+enum lupin_view {
+    LUPIN_CLEAR_DAY = 1,
+    LUPIN_NIGHT_OR_OBSTRUCTED = 2,
+    LUPIN_IMPAIRED_WEATHER = 3
+};
+
+enum lupin_class {
+    LUPIN_LIGHT_ENGINE = 1, /* the only one of a THROUGH */
+    LUPIN_TRAIN_ENGINE = 2,
+    LUPIN_MOTOR_TROLLEY = 3, /* or a tower wagon */
+    LUPIN_OTHER_TROLLEY = 4,
+    LUPIN_DIESEL_CAR = 5 /* or a rail motor car, or an EMU */
+};
+
+/* An accepted entry's answer: how many numbers it has, and the place of each. For BEGIN, RECEIVE, MEET and RESUME all three are 0. */
+#define LUPIN_ANSWER 3
+enum lupin_part {
+    LUPIN_ANSWER_NUMBER, /* the form number that the vehicle leaves under */
+    LUPIN_ANSWER_FORMS,  /* the forms to hand over, a sum of enum lupin_form */
+    LUPIN_ANSWER_SPEED   /* the speed on the order, as below */
+};
+
+enum lupin_form {
+    LUPIN_TB_602 = 1,   /* T/B 602, the authority for opening communication */
+    LUPIN_TE_602 = 2,   /* T/E 602, the line clear enquiry message */
+    LUPIN_TF_602 = 4,   /* T/F 602, the conditional line clear message */
+    LUPIN_TG_602 = 8,   /* T/G 602, the conditional line clear ticket, UP (from A) */
+    LUPIN_TH_602 = 16,  /* T/H 602, the same, DN (from B) */
+    LUPIN_T369_3B = 32, /* T/369(3b), the authority to pass the last stop signal at on */
+    LUPIN_T409 = 64,    /* T/409, the caution order */
+    LUPIN_TA_409 = 128, /* T/A 409, the nil caution order */
+    LUPIN_TC_602 = 256  /* T/C 602, the authority on a double line; no entry of a single line has it */
+};
+
+/* A speed as a number, by its case: LUPIN_NO_SPEED; LUPIN_WALKING_PACE; LUPIN_KMH + n for n km/h; LUPIN_BOOKED;
+   LUPIN_TWO_FIGURES + 256 s + e for two figures in km/h, s where the track is straight and the view clear, e elsewhere. No entry of a
+   single line has two figures yet. */
+#define LUPIN_NO_SPEED UINT32_C(0)
+#define LUPIN_WALKING_PACE UINT32_C(65536)
+#define LUPIN_KMH UINT32_C(131072)
+#define LUPIN_BOOKED UINT32_C(196608)
+#define LUPIN_TWO_FIGURES UINT32_C(262144)
+
+/* A speed's number taken apart: which of the five it is; n of LUPIN_KMH; s and e of LUPIN_TWO_FIGURES. */
+#define LUPIN_SPEED_CASE(speed) ((uint32_t)(speed) / 65536 * 65536)
+#define LUPIN_SPEED_KMH(speed) ((uint32_t)(speed) % 65536)
+#define LUPIN_SPEED_STRAIGHT(speed) ((uint32_t)(speed) / 256 % 256)
+#define LUPIN_SPEED_ELSEWHERE(speed) ((uint32_t)(speed) % 256)
+
+/* Stores the position under the name: in the place of what was stored under it before, else in the first unused place, and answers 0.
+   Refused, in this order: 5 where the shelf is none, another length than LUPIN_SHELF included; 24 where the name is not of 1 to
+   LUPIN_LONGEST_NAME capital letters; 25 where it is not on the shelf and all places are used; 26 where the position is none, another
+   length than LUPIN_POSITION included. name_len counts letters, and no zero behind them. */
+uint32_t lupin_store(uint8_t *shelf, size_t shelf_len, const uint8_t *name, size_t name_len, const uint8_t *position, size_t position_len);
+
+/* Puts the position that was last stored under the name at the front of buffer and answers 0.
+   Refused, in this order: 5 where the shelf is none; 24 where the name is not of 1 to LUPIN_LONGEST_NAME capital letters; 24 where it is
+   not on the shelf; 23 where buffer_len is below LUPIN_POSITION. */
+uint32_t lupin_fetch(const uint8_t *shelf, size_t shelf_len, const uint8_t *name, size_t name_len, uint8_t *buffer, size_t buffer_len);
+
+/* Steps the section of the position with the first entry of the bytes; what stands behind that entry is not looked at. Where it is
+   accepted the answer is 0, form number, forms and speed stand in the first LUPIN_ANSWER numbers of answer (enum lupin_part), and the
+   position is that of the section after it.
+   Refused, in this order: 26 where the position is none, another length than LUPIN_POSITION included; 23 where answer_len is below
+   LUPIN_ANSWER. These two alter nothing. Then 1 to 4, no bytes being 1, and 6 to 22: such a refusal leaves every number of answer as it
+   was, adds 1 to one of the position's three counts, which stops at its largest value, and alters nothing else in it. It is counted
+   as in a listing (enum lupin_figure). */
+uint32_t lupin_step(uint8_t *position, size_t position_len, const uint8_t *entry, size_t entry_len, uint32_t *answer, size_t answer_len);
+
+/* Writes the entry that the first LUPIN_FIELDS numbers of fields say (enum lupin_field) at the front of the bytes and answers 0; numbers
+   behind them are not looked at. The entry has lupin_entry_length(map) bytes, and LUPIN_LONGEST_ENTRY are enough for any.
+   Refused, in this order: 23 where fields_len is below LUPIN_FIELDS; 2 where the map has no kind or the kind is none of 1 to 9; 3 where
+   the map is not of the kind; 4 where a field lies outside its range, or is not 0 though the map has no bit for it; 23 where entry_len is
+   too small. A number above 255 in a field of one byte, which is any but time and number, counts as 255, which none allows: such a kind
+   is none, such a map is of no kind, and any other such field lies outside its range. */
+uint32_t lupin_write_entry(const uint16_t *fields, size_t fields_len, uint8_t *entry, size_t entry_len);
+
+/* Reads the first entry of the bytes into the first LUPIN_FIELDS numbers of fields and answers 0; what stands behind that entry is not
+   looked at. Refused, in this order: 23 where fields_len is below LUPIN_FIELDS, before any byte is read; 1 where the bytes end inside the
+   entry, or there are none; 2 to 4 as in lupin_write_entry. */
+uint32_t lupin_read_entry(const uint8_t *entry, size_t entry_len, uint16_t *fields, size_t fields_len);
+
+/* How many bytes an entry has that begins with this map: 1 and the bytes of each field whose bit stands, for any map. */
+size_t lupin_entry_length(uint8_t map);
 
 #ifdef __cplusplus
 }

@@ -3,7 +3,7 @@
 use std::io::Write;
 use std::process::{Command, Stdio};
 
-use lupinshift::FIGURES;
+use lupinshift::{ANSWER, FIGURES, POSITION};
 use second::{Run, Section};
 
 use crate::shared::{figures_of, taken_of};
@@ -23,7 +23,7 @@ pub struct Job {
     pub starts: bool,
 }
 
-pub const JOBS: [Job; 4] = [
+pub const JOBS: [Job; 5] = [
     Job {
         name: "read",
         works: [
@@ -48,6 +48,15 @@ pub const JOBS: [Job; 4] = [
             Some(|log, out| lupinshift::list_into(log, out).expect("room") as u64),
             Some(|log, _| second::list(log).len() as u64),
             Some(|log, out| quick::list(log, out).expect("room") as u64),
+        ],
+        starts: false,
+    },
+    Job {
+        name: "step",
+        works: [
+            Some(|log, _| stepped(log, proved_step, lupinshift::entry_length).0),
+            Some(|log, _| stepped(log, second::step_position, second::entry_length).0),
+            None,
         ],
         starts: false,
     },
@@ -89,7 +98,8 @@ pub fn buffer() -> Vec<u8> {
     vec![0; proved.max(quick::room(quick::LONGEST_LOG))]
 }
 
-/// The three programs agree on a log: entries taken, all figures, the listing.
+/// The three programs agree on a log: entries taken, all figures, the listing;
+/// and the two that step a position, in every answer and where they end.
 pub fn assert_agreed(log: &[u8], out: &mut [u8]) {
     let taken = taken_of(log);
     assert_eq!(lupinshift::taken(log), taken);
@@ -102,6 +112,37 @@ pub fn assert_agreed(log: &[u8], out: &mut [u8]) {
     assert!(out[..len] == *listing.as_bytes());
     let len = quick::list(log, out).expect("room");
     assert!(out[..len] == *listing.as_bytes());
+    let proved = stepped(log, proved_step, lupinshift::entry_length);
+    assert!(proved == stepped(log, second::step_position, second::entry_length));
+}
+
+/// 0 or the number of the refusal, as the archive and the second program give
+/// it.
+fn proved_step(position: &mut [u8], entry: &[u8], answer: &mut [u32]) -> u32 {
+    lupinshift::step(position, entry, answer).err().unwrap_or(0)
+}
+
+/// Steps a position with each entry of a log, from the fresh section, as a host
+/// does that keeps it between entries; one number of all answers, and the
+/// position at the end.
+fn stepped(
+    log: &[u8],
+    step: impl Fn(&mut [u8], &[u8], &mut [u32]) -> u32,
+    entry_length: impl Fn(u8) -> usize,
+) -> (u64, [u8; POSITION]) {
+    let mut position = [0; POSITION];
+    let mut answer = [0; ANSWER];
+    let mut rest = log;
+    let mut sum = 0_u64;
+    while let Some(&map) = rest.first() {
+        let (entry, behind) = rest.split_at(entry_length(map).min(rest.len()));
+        let refusal = step(&mut position, entry, &mut answer);
+        for number in [refusal].into_iter().chain(answer) {
+            sum = sum.wrapping_mul(65_537).wrapping_add(number.into());
+        }
+        rest = behind;
+    }
+    (sum, position)
 }
 
 fn proved_figures(log: &[u8]) -> [u64; FIGURES] {

@@ -66,7 +66,11 @@ fn print_logs() {
 
 fn print_double_logs() {
     for case in double_cases() {
-        println!("{} {}", case.name, second::double::Run::of(&case.log).count());
+        println!(
+            "{} {}",
+            case.name,
+            second::double::Run::of(&case.log).count()
+        );
     }
 }
 

@@ -1,11 +1,12 @@
-//! Runs the proved library and the second program on the same logs, in memory,
-//! and stops at the first difference.
+//! Runs the proved library and the second program on the same logs and on the
+//! same calls for positions, in memory, and stops at the first difference.
 
 mod shared;
 
 use std::process::ExitCode;
 
 use lupinshift::{Figures, Listing, FIGURES, LONGEST_LINE, LONGEST_LOG};
+use second::calls::{Call, Calls};
 use second::generator::{log, Options};
 use second::random::Random;
 use second::Run;
@@ -37,7 +38,46 @@ fn main() -> ExitCode {
         bytes += log.len();
     }
     println!("compare: {count} logs, {bytes} bytes, {entries} entries: no difference");
+    let calls = Calls::new(count).take(usize::try_from(count).unwrap_or(usize::MAX));
+    for (number, call) in calls.enumerate() {
+        if !same_call(&call) {
+            eprintln!("compare: call {number} of {count} differs: {call:?}");
+            return ExitCode::FAILURE;
+        }
+    }
+    println!("compare: {count} calls for positions: no difference");
     ExitCode::SUCCESS
+}
+
+/// The same answer, and the same in every buffer after it.
+fn same_call(call: &Call) -> bool {
+    let (mut proved, mut second) = (call.clone(), call.clone());
+    made(&mut proved) == second.run() && proved == second
+}
+
+/// Makes a call of the proved library, in the call's own buffers.
+fn made(call: &mut Call) -> u32 {
+    let done = match call {
+        Call::Store {
+            shelf,
+            name,
+            position,
+        } => lupinshift::store(shelf, name, position),
+        Call::Fetch {
+            shelf,
+            name,
+            buffer,
+        } => lupinshift::fetch(shelf, name, buffer),
+        Call::Step {
+            position,
+            entry,
+            answer,
+        } => lupinshift::step(position, entry, answer),
+        Call::Write { fields, bytes } => lupinshift::write_entry(fields, bytes),
+        Call::Read { bytes, fields } => lupinshift::read_entry(bytes, fields),
+        Call::Length { map } => return lupinshift::entry_length(*map) as u32,
+    };
+    done.err().unwrap_or(0)
 }
 
 /// A log of one of ten sorts in turn: generated, damaged, random bytes, at the

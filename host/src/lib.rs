@@ -24,11 +24,53 @@
 //! assert_eq!(figures.refused_of_none, 1);
 //! ```
 //!
-//! Where a call is refused no place of the buffer lent is altered.
+//! A program that keeps the section between entries has it as a [`Position`],
+//! builds an [`Entry`] and steps with it. A [`Shelf`] keeps positions under
+//! names, to return to.
+//!
+//! ```
+//! use lupinshift::{kind, map, station, view, Entry, Position, Shelf, Speed};
+//!
+//! let begin = Entry { map: map::BEGIN, kind: kind::BEGIN, ..Entry::default() };
+//! let train = Entry {
+//!     map: map::TRAIN,
+//!     kind: kind::TRAIN,
+//!     station: station::A,
+//!     time: 10,
+//!     view: view::CLEAR_DAY,
+//!     ..Entry::default()
+//! };
+//! let mut section = Position::fresh();
+//! let mut shelf = Shelf::empty();
+//! let order = section.step(&begin.write()?)?;
+//! assert_eq!((order.number, order.forms, order.speed), (0, 0, Speed::None));
+//! shelf.store("BEGUN", &section)?;
+//! assert_eq!(section.step(&train.write()?), Err(15));
+//! assert_eq!(lupinshift::words(15), "no line clear is held here");
+//! assert_ne!(section, shelf.fetch("BEGUN")?); // the refusal is counted
+//! # Ok::<(), u32>(())
+//! ```
+//!
+//! Where a call is refused no place of a buffer lent is altered, but that an
+//! entry which a step refuses is counted in the position.
 
 #![deny(unsafe_op_in_unsafe_fn)]
 
+mod entry;
+mod position;
+mod refusal;
+
 use std::io::{self, Write};
+
+pub use entry::{
+    class, entry_length, kind, map, read_entry, station, view, write_entry, Entry, FIELDS,
+    LONGEST_ENTRY,
+};
+pub use position::{
+    at, desk, fetch, step, store, vehicle, Order, Position, Shelf, Speed, ANSWER, FORMS,
+    LONGEST_NAME, POSITION, SHELF, VEHICLES,
+};
+pub use refusal::words;
 
 /// The functions as `lupinshift.h` declares them: a slice is a pointer and
 /// then a length. They have no conditions but valid slices.
@@ -58,6 +100,43 @@ mod exported {
         ) -> usize;
         pub fn lupin_answer(log: *const u8, log_len: usize) -> u32;
         pub fn lupin_taken(log: *const u8, log_len: usize) -> usize;
+        pub fn lupin_store(
+            shelf: *mut u8,
+            shelf_len: usize,
+            name: *const u8,
+            name_len: usize,
+            position: *const u8,
+            position_len: usize,
+        ) -> u32;
+        pub fn lupin_fetch(
+            shelf: *const u8,
+            shelf_len: usize,
+            name: *const u8,
+            name_len: usize,
+            buffer: *mut u8,
+            buffer_len: usize,
+        ) -> u32;
+        pub fn lupin_step(
+            position: *mut u8,
+            position_len: usize,
+            entry: *const u8,
+            entry_len: usize,
+            answer: *mut u32,
+            answer_len: usize,
+        ) -> u32;
+        pub fn lupin_write_entry(
+            fields: *const u16,
+            fields_len: usize,
+            entry: *mut u8,
+            entry_len: usize,
+        ) -> u32;
+        pub fn lupin_read_entry(
+            entry: *const u8,
+            entry_len: usize,
+            fields: *mut u16,
+            fields_len: usize,
+        ) -> u32;
+        pub fn lupin_entry_length(map: u8) -> usize;
     }
 }
 

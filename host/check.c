@@ -236,7 +236,8 @@ static void every_part(void)
     }
     expect(at == sizeof given_up, "lupin_entry_length, every part");
     expect(answer[LUPIN_ANSWER_NUMBER] == 3 && answer[LUPIN_ANSWER_FORMS] == (LUPIN_TF_602 | LUPIN_TG_602 | LUPIN_T369_3B | LUPIN_T409), "lupin_step, every part: form number and forms");
-    expect(LUPIN_SPEED_CASE(answer[LUPIN_ANSWER_SPEED]) == LUPIN_KMH && LUPIN_SPEED_KMH(answer[LUPIN_ANSWER_SPEED]) == 25, "lupin_step, every part: the speed");
+    expect(LUPIN_SPEED_CASE(answer[LUPIN_ANSWER_SPEED]) == LUPIN_TWO_FIGURES, "lupin_step, every part: two figures");
+    expect(LUPIN_SPEED_STRAIGHT(answer[LUPIN_ANSWER_SPEED]) == 25 && LUPIN_SPEED_ELSEWHERE(answer[LUPIN_ANSWER_SPEED]) == 10, "lupin_step, every part: the speed");
     memcpy(wanted + LUPIN_AT_VEHICLES, vehicles, sizeof vehicles);
     wanted[LUPIN_AT_IN_FORCE] = 1;
     wanted[LUPIN_AT_REFUSED_FOR_A + 3] = 1;

@@ -315,7 +315,7 @@ pub enum Speed {
     Kmh(u8),
     /// The booked speed.
     Booked,
-    /// Two figures in km/h. No entry of a single line has them yet.
+    /// Two figures in km/h, of a train that follows another.
     TwoFigures {
         /// Where the track is straight and the view clear.
         straight: u8,

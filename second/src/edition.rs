@@ -1,20 +1,22 @@
 //! The two editions of the step, and the places where they differ.
 //!
 //! Request T-02 promises that lists once accepted throughout are answered as
-//! before, and T-03 leaves that promise as it is. To hold the step to it, document
-//! 01's own step is kept beside today's. Only tests and walks use it.
+//! before. T-03 leaves that promise as it is, and T-07 alters it in nothing but a
+//! follower's speed. To hold the step to it, document 01's own step is kept beside
+//! today's. Only tests and walks use it.
 
 use crate::entry::Table;
 use crate::section::{Desk, Vehicle};
+use crate::step::Speed;
 
 /// By which document a step answers.
 #[derive(Clone, Copy, Debug, Default, PartialEq, Eq, Hash)]
 pub enum Edition {
-    /// Document 01 with request T-01 and without T-02 and T-03. Its section has no
-    /// line clears waiting and none given up: from the fresh section on, these
+    /// Document 01 with request T-01 and without T-02, T-03 and T-07. Its section has
+    /// no line clears waiting and none given up: from the fresh section on, these
     /// figures stay 0.
     Document01,
-    /// Document 01 with requests T-01, T-02 and T-03.
+    /// Document 01 with requests T-01, T-02, T-03 and T-07.
     #[default]
     Today,
 }
@@ -35,6 +37,23 @@ impl Edition {
             // Only the last of a series, which leaves no line clear held.
             Edition::Document01 => desk.holds <= 1,
             Edition::Today => desk.owes == 0,
+        }
+    }
+
+    /// The speed of a train that leaves behind another, in this view. Only a clear
+    /// day lets it run faster on the straight than elsewhere.
+    pub(crate) fn speed_of_a_follower(self, view: u8) -> Speed {
+        let straight = match view {
+            1 => 25,
+            _ => 10,
+        };
+        match self {
+            // One figure for the whole run.
+            Edition::Document01 => Speed::Limit(straight),
+            Edition::Today => Speed::Two {
+                straight,
+                elsewhere: 10,
+            },
         }
     }
 
@@ -140,6 +159,19 @@ mod tests {
             assert_eq!(taken([5, 1, 0]), [5, 1, 0]);
             assert_eq!(taken([5, 1, 4]), [5, 1, 4]);
             assert_eq!(taken([5, 0, 4]), [4, 0, 0]);
+        }
+    }
+
+    #[test]
+    fn a_follower_has_one_figure_in_document_01_and_two_today() {
+        for (view, straight) in [(1, 25), (2, 10), (3, 10)] {
+            let speeds = [Edition::Document01, Edition::Today]
+                .map(|edition| edition.speed_of_a_follower(view));
+            let two = Speed::Two {
+                straight,
+                elsewhere: 10,
+            };
+            assert_eq!(speeds, [Speed::Limit(straight), two]);
         }
     }
 

@@ -1,8 +1,8 @@
 //! Two stations and the section between them, worked under total failure of
 //! communication: a second reading of the document and of requests T-01, T-02,
-//! T-03, T-05 and T-06, written from them alone, so that the first can be compared
-//! with it. What stands here is the single line; [`double`] has the double line,
-//! with the same names.
+//! T-03, T-05, T-06 and T-07, written from them alone, so that the first can be
+//! compared with it. What stands here is the single line; [`double`] has the double
+//! line, with the same names.
 //!
 //! * [`decode`] and [`encode`] turn bytes into an [`Entry`] and back; a [`Table`]
 //!   does so for either line,

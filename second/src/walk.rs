@@ -14,7 +14,8 @@
 //!   and every figure of the last section, the three counts among them, stay;
 //! * as long as document 01's own step has refused none of a list, every answer
 //!   and every section is as that step gives it, with no line clear waiting and
-//!   none given up.
+//!   none given up, but that an answer with a caution order has two figures where
+//!   that step gives one.
 //!
 //! What a vehicle left on, and so whether it is a train, is looked up in the list
 //! of entries and answers and not in the vehicle's own record. Every state of a walk is the end of a list,
@@ -303,6 +304,8 @@ pub fn check_opposed(list: &[Step], section: &Section) -> Result<u64, Failure> {
     Ok(pairs)
 }
 
+/// On T/B 602 at 15 km/h or less. A speed with two figures is not of that sort,
+/// however low they are: T/B 602 has one.
 fn left_slowly(list: &[Step], vehicle: &Vehicle) -> bool {
     departure_of(list, vehicle).is_some_and(|(_, _, accepted)| {
         let slow = matches!(
@@ -407,22 +410,38 @@ fn trains_of<'a>(list: &[Step], section: &'a Section, station: Station) -> Vec<&
 ///
 /// # Errors
 ///
-/// An answer or a section that is not as document 01's own step gives it.
+/// An answer or a section that is not as document 01's own step gives it, a
+/// follower's second figure aside.
 pub fn check_as_before(list: &[Step], sections: &[Section]) -> Result<usize, Failure> {
     let mut before = Section::fresh();
     for (place, (step, after)) in list.iter().zip(&sections[1..]).enumerate() {
-        let answer = step_by(Edition::Document01, &mut before, &step.bytes);
-        if answer.is_err() {
+        let Ok(accepted) = step_by(Edition::Document01, &mut before, &step.bytes) else {
             return Ok(place);
-        }
+        };
         // With nothing waiting or given up in document 01's section, all figures
         // have to be the same.
+        let answer = Ok(with_both_figures(accepted));
         if step.answer != answer || *after != before {
             let claim = format!("not as before: {answer:?} {before:?}");
             return fail(&list[..=place], after, &claim);
         }
     }
     Ok(list.len())
+}
+
+/// Document 01's answer as today's step has to give it: where there is a caution
+/// order, its one figure is for the straight, and elsewhere it is 10.
+fn with_both_figures(accepted: Accepted) -> Accepted {
+    match accepted.speed {
+        Speed::Limit(straight) if accepted.forms & form::T_409 != 0 => Accepted {
+            speed: Speed::Two {
+                straight,
+                elsewhere: 10,
+            },
+            ..accepted
+        },
+        _ => accepted,
+    }
 }
 
 /// Changes the places of every two neighbours that may change them, and runs
@@ -509,6 +528,13 @@ mod tests {
         (list, section)
     }
 
+    const fn two(straight: u8, elsewhere: u8) -> Speed {
+        Speed::Two {
+            straight,
+            elsewhere,
+        }
+    }
+
     fn opened_from_both_ends() -> Vec<Entry> {
         vec![
             Entry::begin(),
@@ -553,6 +579,24 @@ mod tests {
         assert_eq!(check_opposed(&list, &section), Ok(1));
         list[1].answer.as_mut().unwrap().forms = 6;
         assert!(check_opposed(&list, &section).is_err());
+    }
+
+    #[test]
+    fn two_figures_are_not_15_or_less() {
+        let (list, section) = run(&opened_from_both_ends());
+        let holds_with = |place: usize, speed: Speed| {
+            let mut list = list.clone();
+            list[place].answer.as_mut().unwrap().speed = speed;
+            check_opposed(&list, &section).is_ok()
+        };
+        for place in [1, 2] {
+            for speed in [Speed::Walking, Speed::Limit(10), Speed::Limit(15)] {
+                assert!(holds_with(place, speed), "{speed}");
+            }
+            for speed in [two(10, 10), two(15, 10), two(25, 10), two(0, 0)] {
+                assert!(!holds_with(place, speed), "{speed}");
+            }
+        }
     }
 
     #[test]
@@ -714,6 +758,64 @@ mod tests {
                 let differs = sections[place] != run(&two_trains(0, 1)[..place]).1;
                 assert_eq!(check_as_before(&list, &sections).is_err(), differs);
             }
+        }
+    }
+
+    /// Every speed that could be meant, right or wrong.
+    fn all_speeds() -> Vec<Speed> {
+        let figures = [10, 15, 25];
+        let limits = figures.map(Speed::Limit);
+        let twos = figures.map(|straight| figures.map(|elsewhere| two(straight, elsewhere)));
+        let others = [Speed::None, Speed::Walking, Speed::Booked];
+        [&others, &limits, &twos.concat()[..]].concat()
+    }
+
+    /// At each place of a list one speed passes, that of today's step, and no other:
+    /// two figures for the follower and for nobody else.
+    #[test]
+    fn one_speed_passes_at_each_place() {
+        let by_view = [
+            (1, Speed::Limit(15), two(25, 10)),
+            (2, Speed::Limit(10), two(10, 10)),
+            (3, Speed::Walking, two(10, 10)),
+        ];
+        for (view, opener, follower) in by_view {
+            let mut entries = two_trains(0, 1);
+            for place in [1, 5, 6] {
+                entries[place].view = view;
+            }
+            let (none, booked) = (Speed::None, Speed::Booked);
+            // BEGIN, the opener and its receipt, the RETURN and its receipt, the two
+            // trains and their receipts.
+            let right = [
+                none, opener, none, booked, none, booked, follower, none, none,
+            ];
+            let (list, sections) = run_with_sections(&entries);
+            for (place, right) in right.into_iter().enumerate() {
+                for speed in all_speeds() {
+                    let mut list = list.clone();
+                    list[place].answer.as_mut().unwrap().speed = speed;
+                    let passes = check_as_before(&list, &sections) == Ok(9);
+                    assert_eq!(passes, speed == right, "{speed} at {place}, view {view}");
+                }
+            }
+        }
+    }
+
+    /// The caution order decides which answers have two figures, and stays.
+    #[test]
+    fn a_follower_without_its_caution_order_fails() {
+        let (list, sections) = run_with_sections(&two_trains(0, 1));
+        for (forms, speed) in [
+            (-64, two(25, 10)),
+            (-64, Speed::Limit(25)),
+            (64, two(25, 10)),
+        ] {
+            let mut list = list.clone();
+            let answer = list[6].answer.as_mut().unwrap();
+            answer.forms = answer.forms.wrapping_add_signed(forms);
+            answer.speed = speed;
+            assert!(check_as_before(&list, &sections).is_err(), "{forms}");
         }
     }
 

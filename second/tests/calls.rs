@@ -75,7 +75,8 @@ fn accepted_steps_have_every_kind_and_every_speed_of_a_single_line() {
                 kinds.insert(decode(&entry).unwrap().kind);
             }
         }
-        let expected = [0, 65_536, 131_082, 131_087, 131_097, 196_608];
+        // None, walking pace, 10, 15, booked, 10/10 and 25/10.
+        let expected = [0, 65_536, 131_082, 131_087, 196_608, 264_714, 268_554];
         assert!(speeds.iter().eq(&expected), "{speeds:?}");
         assert_eq!(kinds.len(), Kind::ALL.len());
     }

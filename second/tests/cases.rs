@@ -166,7 +166,7 @@ fn the_session_by_hand() {
         "ok 0 0 -",
         "ok 2 168 B",
         "no 19",
-        "ok 3 104 25",
+        "ok 3 104 25/10",
     ];
     let ends = [2, 10, 18, 24, 32, 38, 44, 50];
     let mut expected = vec!["log 50".to_owned()];
@@ -402,6 +402,36 @@ fn sections_have_every_number_of_line_clears_given_up_by_either_station() {
         let expected: BTreeSet<u8> = (0..=8).chain([u8::MAX]).collect();
         assert_eq!(given_up, expected);
     }
+}
+
+/// Of both kinds of train, from either station, in every view.
+#[test]
+fn sections_have_every_follower() {
+    let mut seen = BTreeSet::new();
+    for case in CASES.iter() {
+        let Case::Step { section, bytes } = case else {
+            continue;
+        };
+        // A train has bits 0 to 3: its view is the sixth byte.
+        let (&[_, kind @ (5 | 9), station, _, _, view, ..], Ok(accepted)) =
+            (&bytes[..], second::step(section, bytes).0)
+        else {
+            continue;
+        };
+        // T/409 is a follower's.
+        if accepted.forms & 64 != 0 {
+            seen.insert((kind, station, view, accepted.speed.to_string()));
+        }
+    }
+    let mut expected = BTreeSet::new();
+    for kind in [5, 9] {
+        for station in [1, 2] {
+            for (view, follower) in [(1, "25/10"), (2, "10/10"), (3, "10/10")] {
+                expected.insert((kind, station, view, follower.to_owned()));
+            }
+        }
+    }
+    assert_eq!(seen, expected);
 }
 
 #[test]

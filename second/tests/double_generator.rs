@@ -221,6 +221,8 @@ fn every_log_is_listed_line_by_line() {
         assert_eq!(figures[5..], [present[0] + present[1], 0, 0, 0, 0]);
         let speeds = listing.lines().filter(|line| line.ends_with(" 256 25/10"));
         assert!(speeds.count() > 3_000);
+        // The room that hosts lend, as for a single line.
+        assert!(listing.len() <= 25 * log.len() + 214);
     }
 }
 

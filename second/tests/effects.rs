@@ -2,7 +2,7 @@
 
 mod common;
 
-use common::{answer, Register};
+use common::{answer, two, Register};
 use second::{Desk, Entry, Kind, Refused, Section, Speed, Station, Vehicle};
 use Station::{A, B};
 
@@ -154,11 +154,11 @@ fn a_series_of_trains_runs_booked_then_slower() {
     assert_eq!(first, answer(2, 168, Speed::Booked));
     register.refuse(19, Entry::train(A, 124, 1, 0, 0));
     let second = register.accept(Entry::train(A, 125, 1, 0, 0));
-    assert_eq!(second, answer(3, 104, Speed::Limit(25)));
+    assert_eq!(second, answer(3, 104, two(25, 10)));
     let third = register.accept(Entry::train(A, 155, 2, 1, 0));
-    assert_eq!(third, answer(4, 106, Speed::Limit(10)));
+    assert_eq!(third, answer(4, 106, two(10, 10)));
     let fourth = register.accept(Entry::train(A, 185, 3, 0, 0));
-    assert_eq!(fourth, answer(5, 104, Speed::Limit(10)));
+    assert_eq!(fourth, answer(5, 104, two(10, 10)));
     register.refuse(15, Entry::train(A, 215, 1, 0, 0));
     assert_eq!(register.section.desk(B).owes, 4);
     for form in 2..=5 {
@@ -181,7 +181,7 @@ fn the_last_train_carries_the_reply() {
     assert_eq!(register.section.desk(A).asked, 5);
     register.refuse(16, Entry::train(A, 125, 1, 0, 6));
     let last = register.accept(Entry::train(A, 125, 1, 3, 5));
-    assert_eq!(last, answer(3, 8 + 32 + 64 + 2 + 4, Speed::Limit(25)));
+    assert_eq!(last, answer(3, 8 + 32 + 64 + 2 + 4, two(25, 10)));
     let at_a = register.section.desk(A);
     assert_eq!((at_a.holds, at_a.asked, at_a.owes), (0, 0, 5));
 

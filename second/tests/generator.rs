@@ -245,7 +245,7 @@ fn places_wished_for() -> BTreeSet<String> {
     for view in 1..=3 {
         wished.insert(format!("Open in view {view}"));
         wished.insert(format!("Through in view {view}"));
-        let follower = if view == 1 { 25 } else { 10 };
+        let follower = if view == 1 { "25/10" } else { "10/10" };
         for kind in ["Train", "LastTrain"] {
             wished.insert(format!("{kind} in view {view}, {}", Speed::Booked));
             wished.insert(format!("{kind} in view {view}, {follower}"));
@@ -445,6 +445,45 @@ fn every_log_is_listed_line_by_line() {
         assert_eq!(figures[..2], [run.len(), accepted]);
         assert_eq!(figures[0], figures[1..5].iter().sum::<usize>());
     }
+}
+
+/// The room that hosts lend for a listing is 25 bytes for each byte of the log, and
+/// 214 for the last line. A line of an accepted entry, which has two bytes or more,
+/// takes 28 at most, one of a refused entry 16; each counts its line feed.
+#[track_caller]
+fn fits_the_room_lent(log: &[u8]) {
+    let listing = list(log);
+    assert!(listing.len() <= 25 * log.len() + 214);
+    let lines: Vec<&str> = listing.split_inclusive('\n').collect();
+    let (end, lines) = lines.split_last().unwrap();
+    assert!(end.len() <= 214, "{end}");
+    for line in lines {
+        let most = if line.contains(" ok ") { 28 } else { 16 };
+        assert!(line.len() <= most, "{line}");
+    }
+}
+
+#[test]
+fn every_listing_fits_the_room_that_hosts_lend() {
+    for log in LOGS.iter() {
+        fits_the_room_lent(log);
+    }
+    for accepted in [false, true] {
+        for full in [false, true] {
+            let options = Options {
+                accepted,
+                full,
+                ..Options::default()
+            };
+            fits_the_room_lent(&lister_sized(7, options));
+            for entries in 0..60 {
+                fits_the_room_lent(&log(entries, entries as usize, options));
+            }
+        }
+    }
+    // The shortest entries that are accepted, and the shortest of all.
+    fits_the_room_lent(&[0x01, 1, 0x01, 8].repeat(LONGEST_LOG / 4));
+    fits_the_room_lent(&[0].repeat(LONGEST_LOG));
 }
 
 /// The refusals whose count is easily mistaken, by what the bytes show: with 7 the

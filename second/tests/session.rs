@@ -1,4 +1,5 @@
-//! The session of the document, byte for byte, and the lister as a program.
+//! The session of the document, byte for byte, with T-01's counts in its last line
+//! and T-07's two figures in its eighth; and the lister as a program.
 
 use std::io::Write;
 use std::process::{Command, Output, Stdio};
@@ -24,7 +25,7 @@ const LISTING: &str = "\
 5 6 A ok 0 0 -
 6 5 A ok 2 168 B
 7 5 A no 19
-8 5 A ok 3 104 25
+8 5 A ok 3 104 25/10
 end 8 7 1 0 0 2 0 0 0 2
 ";
 

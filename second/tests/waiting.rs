@@ -3,7 +3,7 @@
 
 mod common;
 
-use common::{answer, bytes_of, Register};
+use common::{answer, bytes_of, two, Register};
 use second::{list, step_by, Edition, Entry, Kind, Refusal, Section, Speed, Station, Vehicle};
 use Station::{A, B};
 
@@ -47,7 +47,7 @@ fn a_reply_rides_with_the_first_train_of_three() {
     // A has given what was asked and owes it.
     register.refuse(16, Entry::train(A, 126, 1, 0, 1));
     let second = register.accept(Entry::train(A, 126, 1, 0, 0));
-    assert_eq!(second, answer(3, 8 + 32 + 64, Speed::Limit(25)));
+    assert_eq!(second, answer(3, 8 + 32 + 64, two(25, 10)));
 
     register.accept(Entry::receive(B, 150, A, 2));
     assert_eq!(clears(&register.section, B), [0, 0, 2, 2]);
@@ -278,7 +278,8 @@ fn document_01_sets_holds_to_granted_0_included() {
     }
 }
 
-/// The grant rides with the last train, so both editions give the same.
+/// The grant rides with the last train, so both editions give the same, but for a
+/// second figure where a train follows another.
 #[test]
 fn a_list_once_accepted_is_answered_as_before() {
     let mut entries = opened().to_vec();
@@ -286,20 +287,35 @@ fn a_list_once_accepted_is_answered_as_before() {
         Entry::train(A, 96, 1, 0, 0),
         Entry::train(A, 126, 1, 0, 0),
         Entry::receive(B, 150, A, 2),
-        Entry::train(A, 156, 1, 4, 2),
+        Entry::train(A, 156, 2, 4, 2),
         Entry::receive(B, 210, A, 3),
         Entry::receive(B, 210, A, 4),
         Entry::train(B, 210, 1, 0, 0),
-        Entry::train(B, 240, 1, 0, 4),
+        Entry::train(B, 240, 3, 0, 4),
         Entry::receive(A, 300, B, 2),
         Entry::receive(A, 300, B, 3),
         Entry::resume(),
     ]);
     let mut register = Register::fresh();
     let mut before = Section::fresh();
+    let mut differing = Vec::new();
     for entry in entries {
-        let answer = step_by(Edition::Document01, &mut before, &bytes_of(&entry));
-        assert_eq!(Ok(register.accept(entry)), answer, "{entry:?}");
+        let once = step_by(Edition::Document01, &mut before, &bytes_of(&entry)).unwrap();
+        let today = register.accept(entry);
+        if today != once {
+            differing.push((once, today));
+        }
         assert_eq!(register.section, before, "{entry:?}");
     }
+    // A's second and third train and B's second, on UP and DN tickets.
+    let follower = |form, forms, straight| {
+        let once = answer(form, forms, Speed::Limit(straight));
+        (once, answer(form, forms, two(straight, 10)))
+    };
+    let followers = [
+        follower(3, 8 + 32 + 64, 25),
+        follower(4, 8 + 32 + 64 + 2 + 4, 10),
+        follower(3, 16 + 32 + 64 + 4, 10),
+    ];
+    assert_eq!(differing, followers);
 }

@@ -5,7 +5,7 @@ use std::process::{Command, Output};
 
 use second::walk::{walk, walk_with, Stepper};
 use second::{
-    decode, step_in_place, Answer, Desk, Kind, Refusal, Section, Speed, Station, Vehicle,
+    decode, step_in_place, Accepted, Answer, Desk, Kind, Refusal, Section, Speed, Station, Vehicle,
 };
 
 #[test]
@@ -297,17 +297,73 @@ fn a_guest_of_another_class_than_before_is_caught() {
     is_caught_as(&message, "not as before");
 }
 
+/// A step that answers with the speed that `slip` makes of the right one.
+fn walk_with_speeds(slip: impl Fn(Speed) -> Speed) -> String {
+    walk_that_fails(&|section: &mut Section, bytes: &[u8]| -> Answer {
+        let answer = step_in_place(section, bytes)?;
+        let speed = slip(answer.speed);
+        Ok(Accepted { speed, ..answer })
+    })
+}
+
 #[test]
 fn another_speed_than_before_is_caught() {
-    let stepper = |section: &mut Section, bytes: &[u8]| -> Answer {
-        let mut answer = step_in_place(section, bytes)?;
-        if answer.speed == Speed::Limit(25) {
-            answer.speed = Speed::Booked;
-        }
-        Ok(answer)
-    };
-    let message = walk_with(&stepper, 1, 20_000).expect_err("the slip is to be caught");
-    is_caught_as(&message.0, "not as before");
+    let message = walk_with_speeds(|speed| match speed {
+        Speed::Two { straight: 25, .. } => Speed::Booked,
+        speed => speed,
+    });
+    is_caught_as(&message, "not as before");
+}
+
+#[test]
+fn a_follower_without_its_second_figure_is_caught() {
+    for figure in [25, 10] {
+        let message = walk_with_speeds(|speed| match speed {
+            Speed::Two { straight, .. } if straight == figure => Speed::Limit(straight),
+            speed => speed,
+        });
+        is_caught_as(&message, "not as before");
+    }
+}
+
+#[test]
+fn a_follower_with_its_figures_in_the_other_order_is_caught() {
+    let message = walk_with_speeds(|speed| match speed {
+        Speed::Two {
+            straight,
+            elsewhere,
+        } => Speed::Two {
+            straight: elsewhere,
+            elsewhere: straight,
+        },
+        speed => speed,
+    });
+    is_caught_as(&message, "not as before");
+}
+
+#[test]
+fn two_figures_on_a_booked_departure_are_caught() {
+    let message = walk_with_speeds(|speed| match speed {
+        Speed::Booked => Speed::Two {
+            straight: 25,
+            elsewhere: 10,
+        },
+        speed => speed,
+    });
+    is_caught_as(&message, "not as before");
+}
+
+/// Two figures are not 15 km/h or less, so it is an opposed pair that shows it.
+#[test]
+fn two_figures_on_an_opener_are_caught() {
+    let message = walk_with_speeds(|speed| match speed {
+        Speed::Limit(10) => Speed::Two {
+            straight: 10,
+            elsewhere: 10,
+        },
+        speed => speed,
+    });
+    is_caught_as(&message, "opposed");
 }
 
 #[test]

@@ -26,7 +26,7 @@ use step::Last;
 use words::fresh_words;
 use working::Answer;
 
-// The room that the listing of any log of so many bytes takes, and the longest line more: at most a line of 25 bytes for each byte, and the last line.
+// The room that the listing of any log of so many bytes takes, and the longest line more: at most 25 bytes for each byte, and the last line.
 fn listing_room(len: usize) -> usize
     ensures { λ r. ⌜ r ≡ listingRoom len ⌝ }
 {

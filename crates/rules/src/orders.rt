@@ -1,5 +1,6 @@
 // What a driver leaves with: the vehicle's record, its speed and its forms.
 ghost use Rattle.working.specs.Effects.{clearForms, followSpeed, openSpeed, trainSpeed, vehicleFor, wayForm};
+ghost use Rattle.working.specs.declared.Speed.the-variants.{Both};
 ghost use mathlib.Core.Bool.{cond};
 ghost use mathlib.Core.Path.{_≡_};
 use section::other;
@@ -43,16 +44,26 @@ pub fn tb602_speed(view: View) -> Speed
     }
 }
 
-// The speed of a train that follows another: para 8021, down the limits of its caution order.
+// At most so many km/h where the track is straight and the view clear, and at most so many elsewhere.
+fn both(straight: u8, elsewhere: u8) -> Speed
+    ensures { λ r. ⌜ r ≡ Both straight elsewhere ⌝ }
+{
+    Speed::Both {
+        straight: straight,
+        elsewhere: elsewhere,
+    }
+}
+
+// The speeds of a train that follows another: both limits of its caution order, in the sequence of para 8021. The first is for straight track with a clear view, the second
+// for elsewhere: coming to or passing a curve, an obstruction, rain, fog or whatever else narrows the view.
 pub fn follower_speed(view: View) -> Speed
     ensures { λ r. ⌜ r ≡ followSpeed view ⌝ }
 {
     match view {
-        // where the track is straight and the view clear: at most 25
-        View::Clear => Speed::Kmh(25),
-        // elsewhere, coming to or passing a curve, an obstruction, rain, fog or whatever else narrows the view: at most 10
-        // (document 01 has 10 by night too)
-        View::Night | View::Impaired => Speed::Kmh(10),
+        // with a clear view: at most 25 on the straight, at most 10 elsewhere
+        View::Clear => both(25, 10),
+        // else the view is clear nowhere: at most 10 on the straight too (document 01 has 10 by night as well)
+        View::Night | View::Impaired => both(10, 10),
     }
 }
 

@@ -1,8 +1,8 @@
 -- T-02: "Lists from fresh once accepted throughout are answered as before." Of every list of steps from fresh of which document 01's own step refuses none, today's step
--- gives each the same answer and the same section, and nothing waits at the end: `answered-as-before`.
--- The two steps differ in refusal 16 on a TRAIN, in what a receipt makes of holds, and in kind 9. In such a list a station that holds a line clear owes none, so that a
--- TRAIN which document 01 lets go is let go; whoever receives a grant owes nothing after it, so that it is held at once (`ReplyLast`); and there is no entry of kind 9,
--- since document 01 refuses each with 2 (`KindNine`).
+-- gives each the same section and the same answer, but for the second figure of a follower's speed, and nothing waits at the end: `answered-as-before`.
+-- The two steps differ in refusal 16 on a TRAIN, in what a receipt makes of holds, in kind 9, and in a follower's speed. In such a list a station that holds a line clear
+-- owes none, so that a TRAIN which document 01 lets go is let go; whoever receives a grant owes nothing after it, so that it is held at once (`ReplyLast`); there is no entry
+-- of kind 9, since document 01 refuses each with 2 (`KindNine`); and a follower's speed is document 01's with 10 beside it, view by view (`train-speed`).
 -- Assumes nothing.
 use Prim.Native.Nat.{_<_, ℕ}
 use Rattle.working.proofs.Changes.{Change, arrival, change, departure, emptying, meeting, named-there, refusal, step-is, well-at}
@@ -20,8 +20,9 @@ use Rattle.working.proofs.Tests.{NoneHolds, both, no-test, none-holds, 
 use Rattle.working.proofs.Vehicles.{From, NotFrom, every-end, nearest, not-other, number-same, ordered-far}
 use Rattle.working.specs.Acts as acts
 use Rattle.working.specs.Acts.{Act}
-use Rattle.working.specs.Document01.{AnsweredAsBefore, arriveDesk01, decode01, entered01, holdsAfter01, isKindNine, onDecoded01, planOf01, stepOf01, testsOf01, trainTests01}
-use Rattle.working.specs.Effects.{Plan, arriveDesk, effectOf, grantedIn, otherDesk, ownDesk, replied}
+use Rattle.working.specs.Document01.{AnsweredAsBefore, arriveDesk01, atSpeed, decode01, entered01, followersTwo, follows, holdsAfter01, isFollower, isKindNine}
+use Rattle.working.specs.Document01.{onDecoded01, planOf01, stepOf01, testsOf01, trainSpeed01, trainTests01, withElsewhere, withSecondFigure}
+use Rattle.working.specs.Effects.{Arrive, Depart, Plan, Refuse, arriveDesk, effectOf, grantedIn, otherDesk, ownDesk, replied, trainSpeed}
 use Rattle.working.specs.Events.{At, Bad, Begin, Decoded, Meet, Resume, Says, decode}
 use Rattle.working.specs.Reasons.{departTests, mayEnter, testsOf, trainTests}
 use Rattle.working.specs.Refusals.{Test, firstOf}
@@ -35,15 +36,18 @@ use Rattle.working.specs.declared.Movement.the-variants.{LastTrain, Open
 use Rattle.working.specs.declared.Movement.{Movement}
 use Rattle.working.specs.declared.Refusal.the-variants.{UnknownKind}
 use Rattle.working.specs.declared.Section.{Section}
+use Rattle.working.specs.declared.Speed.{Speed}
 use Rattle.working.specs.declared.Station.the-variants.{A, B}
 use Rattle.working.specs.declared.Station.{Station}
 use Rattle.working.specs.declared.Stepped.{Stepped}
 use Rattle.working.specs.declared.Vehicle.{Vehicle}
 use Rattle.working.specs.declared.Verdict.the-variants.{Allowed, Refused}
 use Rattle.working.specs.declared.Verdict.{Verdict}
+use Rattle.working.specs.declared.View.the-variants.{Clear, Impaired, Night}
+use Rattle.working.specs.declared.View.{View}
 use borrow.Author.Tests.{lt-ltb, ltb-false, ltb-true}
-use lib.Dec.{ltb}
-use mathlib.Core.Bool.{Bool, _&&_, and-false, cond, false, false≢true, true}
+use lib.Dec.{eqb, ltb}
+use mathlib.Core.Bool.{Bool, _&&_, and-false, cond, false, false≢true, not, true}
 use mathlib.Core.List.{List, [], _++_, _∷_}
 use mathlib.Core.Path.{_∙_, _≡_, ap, ap₂, refl, sym}
 
@@ -153,29 +157,49 @@ same-tests d granted free none =
     let above = or-left (ltb (d .clears .asked) granted) _ (none .1 .0) in
     rw (none .1 .0, above, zero-test (d .clears .owes) free, and-false (ltb 0 granted))
 
--- what is known of an act that passes: the plan is the same, and the grant of a TRAIN leaves holds 0
+-- a plan with a second figure beside a departure's speed, where that is a follower's
+abbrev figured : Bool → Plan → Plan
+figured follower (Refuse why) = Refuse why
+figured follower (Depart p) = atSpeed (cond follower (withElsewhere (p .order .speed)) (p .order .speed)) (Depart p)
+figured follower (Arrive d) = Arrive d
+
+unfigured : (p : Plan) → p ≡ figured false p
+unfigured (Refuse why) = refl
+unfigured (Depart p) = refl
+unfigured (Arrive d) = refl
+
+-- document 01's speed of a train, with the second figure where it follows another
+train-speed : (booked : Bool) (view : View) → trainSpeed booked view ≡ cond (not booked) (withElsewhere (trainSpeed01 booked view)) (trainSpeed01 booked view)
+train-speed true view = refl
+train-speed false Clear = refl
+train-speed false Night = refl
+train-speed false Impaired = refl
+
+-- what is known of an act that passes: the plan is the same but for that figure, and the grant of a TRAIN leaves holds 0
 record ActAs (act : Act) (x : Station) (force : Bool) (d : Desk) (time : ℕ) (v : Vehicle) : Type 0 where
-  plan : planOf act x force d time v ≡ planOf01 act x force d time v
+  plan : planOf act x force d time v ≡ figured (follows act d) (planOf01 act x force d time v)
   allowed : Allowed01 act d
 
 act-as : (act : Act) (x : Station) (force : Bool) (d o : Desk) (time : ℕ) (l : List Vehicle) → Well x d o l → Between x d o l → RepliesLast x d o l
     → firstOf (testsOf01 act x force d time (nearestAt x l)) ≡ Allowed → ActAs act x force d time (nearestAt x l)
-act-as (acts.Open view class asked) x force d o time l w h k passes = record { plan = refl; allowed = tt }
-act-as (acts.Through view) x force d o time l w h k passes = record { plan = refl; allowed = tt }
-act-as (acts.Return asked granted) x force d o time l w h k passes = record { plan = refl; allowed = tt }
+act-as (acts.Open view class asked) x force d o time l w h k passes = record { plan = unfigured _; allowed = tt }
+act-as (acts.Through view) x force d o time l w h k passes = record { plan = unfigured _; allowed = tt }
+act-as (acts.Return asked granted) x force d o time l w h k passes = record { plan = unfigured _; allowed = tt }
 act-as (acts.Train endorsed view asked granted) x force d o time l w h k passes =
     let own = depart-passes force d time (trainTests01 d granted) (none-holds (departTests force d time (trainTests01 d granted)) passes) .own in
     let leaves-some = or-right (ltb (d .clears .asked) granted) (ltb 0 granted && ltb 1 (d .clears .holds)) (own .1 .0) in
     let same = same-tests d granted (k .own .owes (some-test _ (own .0))) own in
+    let effect = effectOf (acts.Train endorsed view asked granted) x d time (nearestAt x l) in
     record {
-      plan = ap (λ (tests : List Test). unlessRefused (firstOf (departTests force d time tests)) (effectOf (acts.Train endorsed view asked granted) x d time (nearestAt x l))) same;
+      plan = ap (λ (tests : List Test). unlessRefused (firstOf (departTests force d time tests)) effect) same
+          ∙ rw passes (ap (λ (speed : Speed). atSpeed speed effect) (train-speed (eqb (d .sent) 0) view));
       allowed = λ some. ltb-false 1 _ (rw (lt-ltb 0 granted some) at leaves-some);
     }
 act-as (acts.Receive sender form) x force d o time l w h k passes =
     let p = receive-passes force d time x sender form (nearestAt x l) (none-holds (testsOf (acts.Receive sender form) x force d time (nearestAt x l)) passes) in
     let n = nearest x l (named-there sender form x l (p .named)) in
     let same = taken-as x d o time (n .vehicle) (n .others) (rw (n .whole) at w) (rw (n .whole) at h) (rw (n .whole) at k) (rw (n .near) at (p .enters)) .same in
-    record { plan = rw (passes, n .near, same); allowed = tt }
+    record { plan = rw (passes, n .near, same) (unfigured _); allowed = tt }
 
 -- ---- the step
 
@@ -191,13 +215,30 @@ passes01 : (s : Section) (e : Decoded) (x : Station) (v : Verdict) (p : Plan) �
 passes01 s e x (Refused why) p accepted = absurd (false≢true accepted)
 passes01 s e x Allowed p accepted = refl
 
-entered-as : (s : Section) (x : Station) (time : ℕ) (act : Act)
-    → planOf act x (s .force) (deskOf s x) time (nearestAt x (vehiclesOf s)) ≡ planOf01 act x (s .force) (deskOf s x) time (nearestAt x (vehiclesOf s))
-    → entered s (At x time act) ≡ entered01 s (At x time act)
-unfolding entered
-entered-as s x time act plan = ap (doneBy s (Says (At x time act)) x) plan
+-- a step's result with a second figure beside its speed, where that is a follower's
+abbrev withFigure : Bool → Stepped → Stepped
+withFigure follower r = record { answer = cond follower (withSecondFigure (r .answer)) (r .answer); section = r .section }
 
-decoded-as : (s : Section) (e : Decoded) → Good s → RepliesLastIn s → isAccepted (onDecoded01 s e .answer) ≡ true → (onDecoded s e ≡ onDecoded01 s e) × Allows s e
+done-figured : (s : Section) (e : Decoded) (x : Station) (follower : Bool) (p : Plan) → doneBy s e x (figured follower p) ≡ withFigure follower (doneBy s e x p)
+done-figured s e x true (Refuse why) = refl
+done-figured s e x true (Depart p) = refl
+done-figured s e x true (Arrive d) = refl
+done-figured s e x false (Refuse why) = refl
+done-figured s e x false (Depart p) = refl
+done-figured s e x false (Arrive d) = refl
+
+entered-as : (s : Section) (x : Station) (time : ℕ) (act : Act)
+    → let v = nearestAt x (vehiclesOf s) in
+    planOf act x (s .force) (deskOf s x) time v ≡ figured (follows act (deskOf s x)) (planOf01 act x (s .force) (deskOf s x) time v)
+    → entered s (At x time act) ≡ withFigure (follows act (deskOf s x)) (entered01 s (At x time act))
+unfolding entered
+entered-as s x time act plan =
+    let e = Says (At x time act) in
+    let before = planOf01 act x (s .force) (deskOf s x) time (nearestAt x (vehiclesOf s)) in
+    ap (doneBy s e x) plan ∙ done-figured s e x (follows act (deskOf s x)) before
+
+decoded-as : (s : Section) (e : Decoded) → Good s → RepliesLastIn s → isAccepted (onDecoded01 s e .answer) ≡ true
+    → (onDecoded s e ≡ withFigure (isFollower s e) (onDecoded01 s e)) × Allows s e
 decoded-as s (Bad why) g k accepted = absurd (false≢true accepted)
 decoded-as s (Says Begin) g k accepted = (refl, tt)
 decoded-as s (Says (At x time act)) g k accepted =
@@ -238,17 +279,17 @@ unfolding decode01 stepOf01
 step-01-is s bytes made other = rw (made, other)
 
 step-as : (s : Section) (bytes : List ℕ) → Good s → RepliesLastIn s → isAccepted (stepOf01 s bytes .answer) ≡ true
-    → (stepOf s bytes ≡ stepOf01 s bytes) × RepliesLastIn (stepOf s bytes .section)
+    → (stepOf s bytes ≡ followersTwo stepOf01 s bytes) × RepliesLastIn (stepOf s bytes .section)
 step-as s bytes g k accepted =
     let made = g .sound .well in
     let is = step-01-is s bytes made (no-kind-nine s bytes accepted) in
     let (same, allows) = decoded-as s (decode bytes) g k (rw is at accepted) in
-    (step-is s bytes made ∙ same ∙ sym is, last-change s (decode bytes) (stepOf s bytes) g k allows (change s bytes (g .sound)))
+    (step-is s bytes made ∙ same ∙ ap (withFigure (isFollower s (decode bytes))) (sym is), last-change s (decode bytes) (stepOf s bytes) g k allows (change s bytes (g .sound)))
 
 -- ---- the list
 
 record ListAs (s : Section) (l : List Done) (t : Section) : Type 0 where
-  each : resultsOf s l ≡ resultsBy stepOf01 s l
+  each : resultsOf s l ≡ resultsBy (followersTwo stepOf01) s l
   end : t ≡ endBy stepOf01 s l
   replies : RepliesLastIn t
 
@@ -261,7 +302,7 @@ list-as {s} g k (next {t = t} {d = d} {l = l} h r) accepted =
     let after : t ≡ stepOf01 s (d .bytes) .section = left ∙ ap (λ (z : Stepped). z .section) same in
     let rest = list-as (rw left (good-step s (d .bytes) g)) (rw left replies) r (rw after others) in
     record {
-      each = ap₂ _∷_ same (ap (λ (z : Section). resultsOf z l) (sym left) ∙ rest .each ∙ ap (λ (z : Section). resultsBy stepOf01 z l) after);
+      each = ap₂ _∷_ same (ap (λ (z : Section). resultsOf z l) (sym left) ∙ rest .each ∙ ap (λ (z : Section). resultsBy (followersTwo stepOf01) z l) after);
       end = rest .end ∙ ap (λ (z : Section). endBy stepOf01 z l) after;
       replies = rest .replies;
     }

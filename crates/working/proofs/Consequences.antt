@@ -106,7 +106,7 @@ each-kind : Left (opens 1 10 1 2 ∷ []) 0 (Open 2) (departure A OPEN 1 7 (Kmh 1
     × Left (through 2 0 10 ∷ []) 0 Through (departure B THROUGH 1 1 (Kmh 15))
     × Left (granting A) 0 (Return 3 2) (departure B RETURN 1 182 Booked)
     × Left (following A) 1 (Train 0 0) (departure A TRAIN 2 168 Booked)
-    × Left (following A) 0 (Train 0 3) (departure A TRAIN 3 108 (Kmh 25))
+    × Left (following A) 0 (Train 0 3) (departure A TRAIN 3 108 (Both 25 10))
 unfolding step-computes
 each-kind = (
   left (opens 1 10 1 2 ∷ []) 0 1 refl (omega arith) refl refl,
@@ -126,7 +126,8 @@ last-departure = left twice 0 1 refl (omega arith) refl refl
 
 -- ---- any two vehicles heading towards one another both left on T/B 602 at 15 km/h or less
 
--- "forms contain T/B 602 and .. speed is 15, 10 or walking pace": 25 km/h is not slow, nor the booked speed, and no forms without the 1 of T/B 602 count
+-- "forms contain T/B 602 and .. speed is 15, 10 or walking pace": 25 km/h is not slow, nor the booked speed, nor two figures, though both
+-- be 10, and no forms without the 1 of T/B 602 count
 slowly : List (Option Departure) → List Bool
 slowly [] = []
 slowly (p ∷ l) = leftSlowly p ∷ slowly l
@@ -140,11 +141,14 @@ slow-bounds :
     ∷ some (departure A THROUGH 1 1 (Kmh 25))
     ∷ some (departure A THROUGH 1 1 Booked)
     ∷ some (departure A THROUGH 1 1 NoSpeed)
+    ∷ some (departure A THROUGH 1 1 (Both 10 10))
+    ∷ some (departure B OPEN 1 7 (Both 15 10))
+    ∷ some (departure A TRAIN 2 104 (Both 10 10))
     ∷ some (departure A TRAIN 1 104 (Kmh 10))
     ∷ some (departure A OPEN 1 6 (Kmh 15))
     ∷ none
     ∷ [])
-    ≡ true ∷ true ∷ true ∷ true ∷ false ∷ false ∷ false ∷ false ∷ false ∷ false ∷ []
+    ≡ true ∷ true ∷ true ∷ true ∷ false ∷ false ∷ false ∷ false ∷ false ∷ false ∷ false ∷ false ∷ false ∷ []
 unfolding slowly
 slow-bounds = refl
 
@@ -336,7 +340,7 @@ oneSent =
     ∷ []
 
 abbrev secondSent : Done
-secondSent = returned (train 1 121) (Accepted 3 104 (Kmh 25))
+secondSent = returned (train 1 121) (Accepted 3 104 (Both 25 10))
 
 abbrev firstTaken : Done
 firstTaken = inMemory (receive 2 115 1 2) plain

@@ -21,7 +21,8 @@ use Rattle.working.specs.declared.Refusal.the-variants.{BeforeClock, End
 use Rattle.working.specs.declared.Refusal.the-variants.{TwelveSent, UnknownKind}
 use Rattle.working.specs.declared.Refusal.{Refusal}
 use Rattle.working.specs.declared.Section.{Section}
-use Rattle.working.specs.declared.Speed.the-variants.{Booked, Kmh, Walking}
+use Rattle.working.specs.declared.Speed.the-variants.{Booked, Both, Kmh, Walking}
+use Rattle.working.specs.declared.Speed.{Speed}
 use Rattle.working.specs.declared.Station.the-variants.{A, B}
 use Rattle.working.specs.declared.Stepped.{Stepped}
 use Rattle.working.specs.declared.Vehicle.{Vehicle}
@@ -116,9 +117,9 @@ following form = vehicle (Train 0 0) 1 form 2 false 0
 abbrev replying : ℕ → ℕ → Vehicle
 replying granted form = vehicle (Return 0 granted) 2 form 1 false 1
 
--- desks in figures: clock, last, sent, interval, out, guest, asked, holds, owes
-pub edges : List Edge
-edges =
+-- desks in figures: clock, last, sent, interval, out, guest, asked, holds, owes; the speed is a follower's in view 1
+pub edges : Speed → List Edge
+edges follower =
     -- (a) no bytes: 1; map 0: 2
     refused NoStation fresh [] EndsInside
     ∷ refused NoStation fresh (0 ∷ []) UnknownKind
@@ -131,7 +132,7 @@ edges =
     ∷ refused (Of A) (after begun (opens 1 10 1 1 ∷ [])) (receive 1 9 1 1) BeforeClock
     -- (d) follower at 29 minutes: 19, at 30 accepted
     ∷ refused (Of A) (after holding (train 1 96 ∷ [])) (train 1 125) IntervalRunning
-    ∷ row (after holding (train 1 96 ∷ [])) (train 1 126) (Accepted 3 104 (Kmh 25))
+    ∷ row (after holding (train 1 96 ∷ [])) (train 1 126) (Accepted 3 104 follower)
     (working noneRefused (following 3 ∷ following 2 ∷ []) (figures 126 3 2 (Since 126) false 0 0 0 0) (figures 75 1 1 (Since 75) false 0 0 0 2))
     -- (e) twelfth THROUGH with no receipt accepted, thirteenth: 17
     ∷ row eleven (through 1 1 74) (Accepted 12 1 (Kmh 15))
@@ -164,16 +165,16 @@ edges =
 
 -- ---- every row holds: the answers, and the sections after them in every figure
 
-pub edges-hold : answersTo edges ≡ expectedOf edges
+pub edges-hold : answersTo (edges (Both 25 10)) ≡ expectedOf (edges (Both 25 10))
 unfolding edges eleven guest holding met step-computes worn
 edges-hold = refl
 
-pub edges-leave : rowsLeavingAnother 1 edges ≡ []
+pub edges-leave : rowsLeavingAnother 1 (edges (Both 25 10)) ≡ []
 unfolding edges eleven guest holding met step-computes worn
 edges-leave = refl
 
 -- and document 01's own step, which stays as a definition, holds to its own edges
-pub edges-hold-01 : (answersBy stepOf01 edges ≡ expectedOf edges) × (leavingAnotherBy stepOf01 1 edges ≡ [])
+pub edges-hold-01 : let rows = edges (Kmh 25) in (answersBy stepOf01 rows ≡ expectedOf rows) × (leavingAnotherBy stepOf01 1 rows ≡ [])
 unfolding decode01 edges eleven guest holding met step-computes stepOf01 worn
 edges-hold-01 = (refl, refl)
 

@@ -20,7 +20,7 @@ use Rattle.working.specs.declared.Answer.the-variants.{Accepted, Refused
 use Rattle.working.specs.declared.Interval.the-variants.{Since, Stopped}
 use Rattle.working.specs.declared.Movement.the-variants.{LastTrain}
 use Rattle.working.specs.declared.Refusal.the-variants.{UnknownKind}
-use Rattle.working.specs.declared.Speed.the-variants.{Booked, Kmh}
+use Rattle.working.specs.declared.Speed.the-variants.{Booked, Both}
 use Rattle.working.specs.declared.Station.the-variants.{A, B}
 use Rattle.working.specs.declared.Station.{Station}
 use Rattle.working.specs.declared.View.the-variants.{Clear}
@@ -141,7 +141,7 @@ abbrev firstIn : Done
 firstIn = handed byValue (receive 2 3 1 2) plain
 
 abbrev lastOut : Done
-lastOut = handed inPlace (lastTrain 1 33) (Accepted 3 104 (Kmh 25))
+lastOut = handed inPlace (lastTrain 1 33) (Accepted 3 104 (Both 25 10))
 
 abbrev lastArrives : Done
 lastArrives = handed byValue (receive 2 6 1 3) plain

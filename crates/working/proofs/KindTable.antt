@@ -17,7 +17,7 @@ use Rattle.working.specs.declared.Movement.{Movement}
 use Rattle.working.specs.declared.Refusal.the-variants.{AlreadyInForce, BeforeClock, FormsUsed, GrantNotAllowed, GuestHere, HoldsLineClear, IntervalRunning, MayNotEnter}
 use Rattle.working.specs.declared.Refusal.the-variants.{EndsInside, IllMade, MayNotMeet, NoGuest, NoLineClear, NotInForce, NotNearest, OpenerAway, OwesLineClear, TwelveSent, UnknownKind, VehiclePresent}
 use Rattle.working.specs.declared.Section.{Section}
-use Rattle.working.specs.declared.Speed.the-variants.{Booked, Kmh, Walking}
+use Rattle.working.specs.declared.Speed.the-variants.{Booked, Both, Kmh, Walking}
 use Rattle.working.specs.declared.Speed.{Speed}
 use Rattle.working.specs.declared.Station.the-variants.{A, B}
 use Rattle.working.specs.declared.Station.{Station}
@@ -166,23 +166,23 @@ departures x =
     -- RETURN: guest and asked cleared; granted above 0 becomes owes, also while S owes, else owes stays; out stays; booked, with 2 if asked and 4 if granted
     ∷ leaves x (figures 90 7 2 (Since 70) true 4 6 0 7) (returning x) (way x + 160) Booked (Return 0 0) 4 (figures 100 8 3 (Since 100) true 0 0 0 7)
     ∷ leaves x (figures 90 7 2 Stopped true 5 6 0 7) (returningWith x 5 1) (way x + 166) Booked (Return 5 1) 5 (figures 100 8 3 (Since 100) true 0 0 0 1)
-    -- TRAIN: booked if sent was 0, else 25 in view 1 and 10 otherwise; without a grant asked and owes stay
+    -- TRAIN: booked if sent was 0, else a follower, T-07: 25/10 in view 1 and 10/10 otherwise; without a grant asked and owes stay
     ∷ leaves x (figures 90 7 0 (Since 70) true 3 6 3 7) (running 5 x 1) (way x + 160) Booked (Train 0 0) 0 (figures 100 8 1 (Since 100) true 3 6 2 7)
     ∷ leaves x (figures 90 7 0 Stopped true 3 6 3 7) (running 5 x 3) (way x + 160) Booked (Train 0 0) 0 (figures 100 8 1 (Since 100) true 3 6 2 7)
-    ∷ leaves x (figures 90 7 2 Stopped true 3 6 3 7) (running 5 x 1) (way x + 96) (Kmh 25) (Train 0 0) 0 (figures 100 8 3 (Since 100) true 3 6 2 7)
-    ∷ leaves x (figures 90 7 2 Stopped true 3 6 3 7) (running 5 x 2) (way x + 96) (Kmh 10) (Train 0 0) 0 (figures 100 8 3 (Since 100) true 3 6 2 7)
-    ∷ leaves x (figures 90 7 2 Stopped true 3 6 3 7) (running 5 x 3) (way x + 96) (Kmh 10) (Train 0 0) 0 (figures 100 8 3 (Since 100) true 3 6 2 7)
+    ∷ leaves x (figures 90 7 2 Stopped true 3 6 3 7) (running 5 x 1) (way x + 96) (Both 25 10) (Train 0 0) 0 (figures 100 8 3 (Since 100) true 3 6 2 7)
+    ∷ leaves x (figures 90 7 2 Stopped true 3 6 3 7) (running 5 x 2) (way x + 96) (Both 10 10) (Train 0 0) 0 (figures 100 8 3 (Since 100) true 3 6 2 7)
+    ∷ leaves x (figures 90 7 2 Stopped true 3 6 3 7) (running 5 x 3) (way x + 96) (Both 10 10) (Train 0 0) 0 (figures 100 8 3 (Since 100) true 3 6 2 7)
     -- a grant becomes owes, and clears asked, whatever is left of it, also on a TRAIN that leaves holds above 0
-    ∷ leaves x (figures 90 7 2 Stopped true 3 6 1 0) (runningWith 5 x 2 1) (way x + 102) (Kmh 25) (Train 2 1) 0 (figures 100 8 3 (Since 100) true 3 0 0 1)
-    ∷ leaves x (figures 90 7 2 Stopped true 3 6 2 0) (runningWith 5 x 2 1) (way x + 102) (Kmh 25) (Train 2 1) 0 (figures 100 8 3 (Since 100) true 3 0 1 1)
+    ∷ leaves x (figures 90 7 2 Stopped true 3 6 1 0) (runningWith 5 x 2 1) (way x + 102) (Both 25 10) (Train 2 1) 0 (figures 100 8 3 (Since 100) true 3 0 0 1)
+    ∷ leaves x (figures 90 7 2 Stopped true 3 6 2 0) (runningWith 5 x 2 1) (way x + 102) (Both 25 10) (Train 2 1) 0 (figures 100 8 3 (Since 100) true 3 0 1 1)
     -- T-03, endorsed as the last: "the sender's holds becomes 0", and its vehicle "carries the holds before it, less 1"; all else as TRAIN
     ∷ leaves x (figures 90 7 0 (Since 70) true 3 6 3 7) (running 9 x 1) (way x + 160) Booked (LastTrain 0 0 2) 0 (figures 100 8 1 (Since 100) true 3 6 0 7)
     ∷ leaves x (figures 90 7 0 Stopped true 3 6 1 7) (running 9 x 3) (way x + 160) Booked (LastTrain 0 0 0) 0 (figures 100 8 1 (Since 100) true 3 6 0 7)
-    ∷ leaves x (figures 90 7 2 Stopped true 3 6 8 7) (running 9 x 1) (way x + 96) (Kmh 25) (LastTrain 0 0 7) 0 (figures 100 8 3 (Since 100) true 3 6 0 7)
-    ∷ leaves x (figures 90 7 2 Stopped true 3 6 2 7) (running 9 x 2) (way x + 96) (Kmh 10) (LastTrain 0 0 1) 0 (figures 100 8 3 (Since 100) true 3 6 0 7)
-    ∷ leaves x (figures 90 7 2 Stopped true 3 6 2 7) (running 9 x 3) (way x + 96) (Kmh 10) (LastTrain 0 0 1) 0 (figures 100 8 3 (Since 100) true 3 6 0 7)
-    ∷ leaves x (figures 90 7 2 Stopped true 3 6 1 0) (runningWith 9 x 2 1) (way x + 102) (Kmh 25) (LastTrain 2 1 0) 0 (figures 100 8 3 (Since 100) true 3 0 0 1)
-    ∷ leaves x (figures 90 7 2 Stopped true 3 6 4 0) (runningWith 9 x 2 1) (way x + 102) (Kmh 25) (LastTrain 2 1 3) 0 (figures 100 8 3 (Since 100) true 3 0 0 1)
+    ∷ leaves x (figures 90 7 2 Stopped true 3 6 8 7) (running 9 x 1) (way x + 96) (Both 25 10) (LastTrain 0 0 7) 0 (figures 100 8 3 (Since 100) true 3 6 0 7)
+    ∷ leaves x (figures 90 7 2 Stopped true 3 6 2 7) (running 9 x 2) (way x + 96) (Both 10 10) (LastTrain 0 0 1) 0 (figures 100 8 3 (Since 100) true 3 6 0 7)
+    ∷ leaves x (figures 90 7 2 Stopped true 3 6 2 7) (running 9 x 3) (way x + 96) (Both 10 10) (LastTrain 0 0 1) 0 (figures 100 8 3 (Since 100) true 3 6 0 7)
+    ∷ leaves x (figures 90 7 2 Stopped true 3 6 1 0) (runningWith 9 x 2 1) (way x + 102) (Both 25 10) (LastTrain 2 1 0) 0 (figures 100 8 3 (Since 100) true 3 0 0 1)
+    ∷ leaves x (figures 90 7 2 Stopped true 3 6 4 0) (runningWith 9 x 2 1) (way x + 102) (Both 25 10) (LastTrain 2 1 3) 0 (figures 100 8 3 (Since 100) true 3 0 0 1)
     ∷ []
 
 -- a receipt at S of its own vehicle, number 7, nearest it, with another behind; and of O's, number 3
@@ -340,3 +340,19 @@ before03 x =
 pub before-t03 : let rows = declared ++ before03 A ++ before03 B in (answersBy stepOf01 rows ≡ expectedOf rows) × (leavingAnotherBy stepOf01 1 rows ≡ [])
 unfolding decode01 step-computes stepOf01
 before-t03 = (refl, refl)
+
+-- ---- and where T-07 altered it: a follower's speed, "25 in view 1 and 10 otherwise", had one figure; the first train was booked in every view, as today
+
+abbrev before07 : Station → List Edge
+before07 x =
+    leaves x (figures 90 7 2 Stopped true 3 6 3 0) (running 5 x 1) (way x + 96) (Kmh 25) (Train 0 0) 0 (figures 100 8 3 (Since 100) true 3 6 2 0)
+    ∷ leaves x (figures 90 7 2 Stopped true 3 6 3 0) (running 5 x 2) (way x + 96) (Kmh 10) (Train 0 0) 0 (figures 100 8 3 (Since 100) true 3 6 2 0)
+    ∷ leaves x (figures 90 7 2 Stopped true 3 6 3 0) (running 5 x 3) (way x + 96) (Kmh 10) (Train 0 0) 0 (figures 100 8 3 (Since 100) true 3 6 2 0)
+    ∷ leaves x (figures 90 7 0 Stopped true 3 6 3 0) (running 5 x 1) (way x + 160) Booked (Train 0 0) 0 (figures 100 8 1 (Since 100) true 3 6 2 0)
+    ∷ leaves x (figures 90 7 0 Stopped true 3 6 3 0) (running 5 x 2) (way x + 160) Booked (Train 0 0) 0 (figures 100 8 1 (Since 100) true 3 6 2 0)
+    ∷ leaves x (figures 90 7 0 Stopped true 3 6 3 0) (running 5 x 3) (way x + 160) Booked (Train 0 0) 0 (figures 100 8 1 (Since 100) true 3 6 2 0)
+    ∷ []
+
+pub before-t07 : let rows = before07 A ++ before07 B in (answersBy stepOf01 rows ≡ expectedOf rows) × (leavingAnotherBy stepOf01 1 rows ≡ [])
+unfolding decode01 step-computes stepOf01
+before-t07 = (refl, refl)

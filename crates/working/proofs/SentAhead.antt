@@ -9,7 +9,7 @@ use Rattle.working.proofs.Lists.{after, done, runs}
 use Rattle.working.proofs.Literals.{receive, train, trainGranting}
 use Rattle.working.specs.Demand3.{vehicleAt}
 use Rattle.working.specs.Departures.{LAST-TRAIN, kindIn}
-use Rattle.working.specs.Document01.{decode01, stepOf01}
+use Rattle.working.specs.Document01.{decode01, followersTwo, stepOf01}
 use Rattle.working.specs.Effects.{wayForm}
 use Rattle.working.specs.Runs.{acceptsBy, endBy, results, resultsBy}
 use Rattle.working.specs.Sections.{deskOf, fresh, numberAt, otherAt}
@@ -84,7 +84,7 @@ accepted-before B = refl
 -- every answer and every section, the section at the end, that nothing waits and that no vehicle left on kind 9, by the theorem
 answered-before : (x : Station)
     → let l = list (withTheLast x) in
-    (results (runs fresh l) ≡ resultsBy stepOf01 fresh (done fresh l))
+    (results (runs fresh l) ≡ resultsBy (followersTwo stepOf01) fresh (done fresh l))
     × (after fresh l ≡ endBy stepOf01 fresh (done fresh l))
     × ((y : Station) → deskOf (after fresh l) y .waiting ≡ 0)
     × ((i : ℕ) → i < after fresh l .len → kindIn (vehicleAt (after fresh l) i .movement) ≡ LAST-TRAIN → ⊥)

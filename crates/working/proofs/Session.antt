@@ -8,7 +8,7 @@ use Rattle.working.specs.Turns.{answersIn, sectionAfter, single, turnsOf
 use Rattle.working.specs.declared.Answer.the-variants.{Accepted, Refused}
 use Rattle.working.specs.declared.Refusal.the-variants.{IntervalRunning}
 use Rattle.working.specs.declared.Section.{Section}
-use Rattle.working.specs.declared.Speed.the-variants.{Booked, Kmh, NoSpeed}
+use Rattle.working.specs.declared.Speed.the-variants.{Booked, Both, Kmh, NoSpeed}
 use mathlib.Core.List.{List, [], _∷_}
 use mathlib.Core.Path.{_≡_, refl}
 
@@ -32,7 +32,7 @@ the-session : answersIn (turnsOf single fresh session) ≡
     ∷ Accepted 0 0 NoSpeed
     ∷ Accepted 2 168 Booked
     ∷ Refused IntervalRunning
-    ∷ Accepted 3 104 (Kmh 25)
+    ∷ Accepted 3 104 (Both 25 10)
     ∷ []
 unfolding turns-compute
 the-session = refl

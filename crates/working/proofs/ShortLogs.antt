@@ -6,7 +6,7 @@ use Rattle.working.specs.Sections.{fresh}
 use Rattle.working.specs.Turns.{answersIn, single, turnsOf}
 use Rattle.working.specs.declared.Answer.the-variants.{Accepted, Refused}
 use Rattle.working.specs.declared.Refusal.the-variants.{AlreadyInForce, BeforeClock, EndsInside, GrantNotAllowed, GuestHere, HoldsLineClear, IntervalRunning, MayNotEnter, MayNotMeet, NoGuest, NoLineClear, NotInForce, NotNearest, OpenerAway, OutOfRange, OwesLineClear, UnknownKind, VehiclePresent, WrongMap}
-use Rattle.working.specs.declared.Speed.the-variants.{Booked, Kmh, NoSpeed, Walking}
+use Rattle.working.specs.declared.Speed.the-variants.{Booked, Both, Kmh, NoSpeed, Walking}
 use mathlib.Core.List.{List, [], _∷_}
 use mathlib.Core.Path.{_≡_, refl}
 
@@ -26,7 +26,7 @@ answers-0 : answersIn (turnsOf single fresh log-0) ≡
     Accepted 0 0 NoSpeed ∷ Accepted 1 7 Walking ∷ Accepted 1 1 (Kmh 10) ∷ Accepted 0 0 NoSpeed ∷ Accepted 2 1 (Kmh 15)
     ∷ Refused NotNearest ∷ Refused UnknownKind ∷ Refused BeforeClock ∷ Accepted 0 0 NoSpeed ∷ Accepted 0 0 NoSpeed
     ∷ Refused NoLineClear ∷ Accepted 3 182 Booked ∷ Accepted 0 0 NoSpeed ∷ Accepted 2 172 Booked ∷ Accepted 0 0 NoSpeed
-    ∷ Refused GrantNotAllowed ∷ Accepted 4 178 Booked ∷ Refused HoldsLineClear ∷ Refused BeforeClock ∷ Accepted 5 114 (Kmh 10)
+    ∷ Refused GrantNotAllowed ∷ Accepted 4 178 Booked ∷ Refused HoldsLineClear ∷ Refused BeforeClock ∷ Accepted 5 114 (Both 10 10)
     ∷ Accepted 0 0 NoSpeed ∷ Accepted 6 1 (Kmh 15) ∷ Refused NoGuest ∷ Accepted 7 7 Walking ∷ Accepted 0 0 NoSpeed
     ∷ Accepted 8 7 (Kmh 10)
     ∷ []
@@ -73,7 +73,7 @@ answers-18 : answersIn (turnsOf single fresh log-18) ≡
     ∷ Accepted 0 0 NoSpeed ∷ Accepted 2 174 Booked ∷ Refused UnknownKind ∷ Accepted 0 0 NoSpeed ∷ Accepted 0 0 NoSpeed
     ∷ Accepted 0 0 NoSpeed ∷ Accepted 1 7 (Kmh 10) ∷ Accepted 0 0 NoSpeed ∷ Refused NoLineClear ∷ Refused OutOfRange
     ∷ Accepted 1 172 Booked ∷ Refused OpenerAway ∷ Refused NoLineClear ∷ Accepted 0 0 NoSpeed ∷ Accepted 2 178 Booked
-    ∷ Accepted 3 112 (Kmh 10)
+    ∷ Accepted 3 112 (Both 10 10)
     ∷ []
 unfolding turns-compute
 answers-18 = refl
@@ -94,8 +94,8 @@ answers-53 : answersIn (turnsOf single fresh log-53) ≡
     Refused UnknownKind ∷ Refused NotInForce ∷ Refused NotInForce ∷ Accepted 0 0 NoSpeed ∷ Accepted 1 7 (Kmh 10)
     ∷ Accepted 0 0 NoSpeed ∷ Refused GuestHere ∷ Accepted 1 182 Booked ∷ Refused UnknownKind ∷ Accepted 0 0 NoSpeed
     ∷ Accepted 2 172 Booked ∷ Refused VehiclePresent ∷ Accepted 0 0 NoSpeed ∷ Refused UnknownKind ∷ Accepted 2 176 Booked
-    ∷ Accepted 0 0 NoSpeed ∷ Refused OwesLineClear ∷ Accepted 3 114 (Kmh 25) ∷ Accepted 4 112 (Kmh 10) ∷ Accepted 0 0 NoSpeed
-    ∷ Accepted 5 112 (Kmh 25) ∷ Accepted 6 114 (Kmh 25) ∷ Accepted 7 112 (Kmh 10) ∷ Accepted 0 0 NoSpeed ∷ Accepted 8 1 (Kmh 15)
+    ∷ Accepted 0 0 NoSpeed ∷ Refused OwesLineClear ∷ Accepted 3 114 (Both 25 10) ∷ Accepted 4 112 (Both 10 10) ∷ Accepted 0 0 NoSpeed
+    ∷ Accepted 5 112 (Both 25 10) ∷ Accepted 6 114 (Both 25 10) ∷ Accepted 7 112 (Both 10 10) ∷ Accepted 0 0 NoSpeed ∷ Accepted 8 1 (Kmh 15)
     ∷ Refused EndsInside
     ∷ []
 unfolding turns-compute
@@ -115,9 +115,9 @@ log-173 =
 
 answers-173 : answersIn (turnsOf single fresh log-173) ≡
     Refused NotInForce ∷ Accepted 0 0 NoSpeed ∷ Accepted 1 7 Walking ∷ Accepted 0 0 NoSpeed ∷ Accepted 1 174 Booked
-    ∷ Accepted 0 0 NoSpeed ∷ Accepted 2 180 Booked ∷ Accepted 0 0 NoSpeed ∷ Accepted 3 112 (Kmh 10) ∷ Accepted 0 0 NoSpeed
+    ∷ Accepted 0 0 NoSpeed ∷ Accepted 2 180 Booked ∷ Accepted 0 0 NoSpeed ∷ Accepted 3 112 (Both 10 10) ∷ Accepted 0 0 NoSpeed
     ∷ Refused AlreadyInForce ∷ Refused BeforeClock ∷ Accepted 2 168 Booked ∷ Refused MayNotMeet ∷ Refused MayNotEnter
-    ∷ Accepted 0 0 NoSpeed ∷ Accepted 3 106 (Kmh 25) ∷ Accepted 0 0 NoSpeed ∷ Accepted 4 7 (Kmh 15) ∷ Accepted 4 7 (Kmh 15)
+    ∷ Accepted 0 0 NoSpeed ∷ Accepted 3 106 (Both 25 10) ∷ Accepted 0 0 NoSpeed ∷ Accepted 4 7 (Kmh 15) ∷ Accepted 4 7 (Kmh 15)
     ∷ Accepted 0 0 NoSpeed ∷ Accepted 0 0 NoSpeed ∷ Accepted 5 7 (Kmh 15) ∷ Accepted 0 0 NoSpeed ∷ Accepted 6 7 Walking
     ∷ Accepted 0 0 NoSpeed
     ∷ []

@@ -1,5 +1,6 @@
--- T-04: each choice of a speed, by itself, is document 01's for every view (`tb602-speed-as-01`, `follower-speed-as-01`); and an entry with a view's number is read as
--- that view (`read-as-numbered`). A view has three cases, and in each of them both sides come to the same by computing.
+-- T-04 and T-07: for every view the choice of a speed for T/B 602 is document 01's (`tb602-speed-as-01`), and that for a follower has document 01's figure and its 10
+-- beside it (`follower-speed-as-01`); and an entry with a view's number is read as that view (`read-as-numbered`). A view has three cases, and in each of them both sides
+-- come to the same by computing.
 -- Assumes nothing.
 use Rattle.working.specs.Events.{viewOf}
 use Rattle.working.specs.Speeds.{FollowerSpeedAs01, Tb602SpeedAs01, viewNumber}

@@ -1,32 +1,38 @@
 -- Document 01's own step, as it stood before the requests that alter what a step answers, with the counts of T-01. Today's step is in Steps; this one stays for the
 -- sentence of T-02, "Lists from fresh once accepted throughout are answered as before", which is stated at the end. Only what the requests altered is written out: T-02
--- refusal 16 on a TRAIN, and what a receipt makes of holds; T-03 kind 9, which was refusal 2. What a later request alters is first written out here as it was. The
--- sections are today's. The step makes nothing wait, moves nothing that waits and sends no vehicle of kind 9, so that from fresh there is none of these; and where there
--- is none `wellMade` asks what document 01 asks.
+-- refusal 16 on a TRAIN, and what a receipt makes of holds; T-03 kind 9, which was refusal 2; T-07 a follower's speed, which had one figure. What a later request alters is
+-- first written out here as it was. The sections are today's. The step makes nothing wait, moves nothing that waits and sends no vehicle of kind 9, so that from fresh there
+-- is none of these; and where there is none `wellMade` asks what document 01 asks.
 use Prim.Native.Nat.{_<_, ℕ}
 use Rattle.working.specs.Acts as acts
 use Rattle.working.specs.Acts.{Act}
 use Rattle.working.specs.Demand3.{vehicleAt}
 use Rattle.working.specs.Departures.{LAST-TRAIN, kindIn}
-use Rattle.working.specs.Effects.{Arrive, Plan, effectOf, otherDesk, ownDesk}
+use Rattle.working.specs.Effects.{Arrive, Depart, Plan, Refuse, effectOf, otherDesk, ownDesk}
 use Rattle.working.specs.Entries.{entryIn, isCut}
 use Rattle.working.specs.Events.{At, Bad, Begin, Decoded, Event, Meet, Resume, Says, decode}
 use Rattle.working.specs.Reasons.{departTests, testsOf}
 use Rattle.working.specs.Refusals.{Test, firstOf}
 use Rattle.working.specs.Runs.{Done, Run, acceptsBy, endBy, results, resultsBy}
 use Rattle.working.specs.Sections.{deskOf, fresh, nearestAt, numberAt, vehiclesOf, withHolds}
+use Rattle.working.specs.Speeds.{followFigure01, viewNumber}
 use Rattle.working.specs.Steps.{doneBy, entered, ifMade, refused, unlessRefused}
 use Rattle.working.specs.WellMade.{wellMade}
+use Rattle.working.specs.declared.Answer.the-variants as answer
+use Rattle.working.specs.declared.Answer.{Answer}
 use Rattle.working.specs.declared.Desk.{Desk}
 use Rattle.working.specs.declared.Movement.the-variants.{LastTrain, Open, Return, Through, Train}
 use Rattle.working.specs.declared.Movement.{Movement}
 use Rattle.working.specs.declared.Refusal.the-variants.{GrantNotAllowed, NoLineClear, UnknownKind}
 use Rattle.working.specs.declared.Section.{Section}
+use Rattle.working.specs.declared.Speed.the-variants.{Booked, Both, Kmh, NoSpeed, Walking}
+use Rattle.working.specs.declared.Speed.{Speed}
 use Rattle.working.specs.declared.Station.{Station}
 use Rattle.working.specs.declared.Stepped.{Stepped}
 use Rattle.working.specs.declared.Vehicle.{Vehicle}
+use Rattle.working.specs.declared.View.{View}
 use lib.Dec.{eqb, ltb}
-use mathlib.Core.Bool.{Bool, _&&_, _||_, cond, not, true}
+use mathlib.Core.Bool.{Bool, _&&_, _||_, cond, false, not, true}
 use mathlib.Core.List.{List, [], _∷_}
 use mathlib.Core.Path.{_≡_}
 
@@ -59,11 +65,27 @@ arriveDesk01 x d time v =
     cond (eqb (v .sender) (numberAt x)) (ownDesk d time (v .movement))
     (withHolds (holdsAfter01 (v .movement) (d .clears .holds)) (otherDesk d time (v .class) (v .movement)))
 
+-- ---- what T-07 altered
+
+-- "TRAIN booked if sent was 0, else 25 in view 1 and 10 otherwise"
+abbrev pub trainSpeed01 : Bool → View → Speed
+trainSpeed01 true view = Booked
+trainSpeed01 false view = Kmh (followFigure01 (viewNumber view))
+
+-- a departure, at another speed
+abbrev pub atSpeed : Speed → Plan → Plan
+atSpeed speed (Refuse why) = Refuse why
+atSpeed speed (Depart p) = Depart (record { desk = p .desk; vehicle = p .vehicle; order = record { forms = p .order .forms; speed = speed } })
+atSpeed speed (Arrive d) = Arrive d
+
+-- ---- each kind
+
 abbrev pub effectOf01 : Act → Station → Desk → ℕ → Vehicle → Plan
 effectOf01 (acts.Open view class asked) x d time v = effectOf (acts.Open view class asked) x d time v
 effectOf01 (acts.Through view) x d time v = effectOf (acts.Through view) x d time v
 effectOf01 (acts.Return asked granted) x d time v = effectOf (acts.Return asked granted) x d time v
-effectOf01 (acts.Train endorsed view asked granted) x d time v = effectOf (acts.Train endorsed view asked granted) x d time v
+effectOf01 (acts.Train endorsed view asked granted) x d time v =
+    atSpeed (trainSpeed01 (eqb (d .sent) 0) view) (effectOf (acts.Train endorsed view asked granted) x d time v)
 effectOf01 (acts.Receive sender form) x d time v = Arrive (arriveDesk01 x d time v)
 
 -- ---- what T-03 altered
@@ -95,10 +117,44 @@ stepOf01 s bytes = ifMade (wellMade s) s (onDecoded01 s (decode01 bytes))
 
 -- ---- "Lists from fresh once accepted throughout are answered as before"
 
--- today's step gave each step of a list the answer and the section of document 01's; the section at the end is the same, nothing waits in it, and no vehicle in it left
--- on kind 9
+-- T-07, "and 10 for elsewhere": beside the one figure of a speed
+abbrev pub withElsewhere : Speed → Speed
+withElsewhere NoSpeed = NoSpeed
+withElsewhere Walking = Walking
+withElsewhere (Kmh k) = Both k 10
+withElsewhere Booked = Booked
+withElsewhere (Both straight elsewhere) = Both straight elsewhere
+
+abbrev pub withSecondFigure : Answer → Answer
+withSecondFigure (answer.Refused why) = answer.Refused why
+withSecondFigure (answer.Accepted form forms speed) = answer.Accepted form forms (withElsewhere speed)
+
+-- a follower: a TRAIN, endorsed or not, of a station whose sent is not 0
+abbrev pub follows : Act → Desk → Bool
+follows (acts.Open view class asked) d = false
+follows (acts.Through view) d = false
+follows (acts.Return asked granted) d = false
+follows (acts.Train endorsed view asked granted) d = not (eqb (d .sent) 0)
+follows (acts.Receive sender form) d = false
+
+abbrev pub isFollower : Section → Decoded → Bool
+isFollower s (Bad why) = false
+isFollower s (Says Begin) = false
+isFollower s (Says (At x time act)) = follows act (deskOf s x)
+isFollower s (Says (Meet x sender form)) = false
+isFollower s (Says Resume) = false
+
+-- a step that gives a follower a second figure, and does all else as another
+abbrev pub followersTwo : (Section → List ℕ → Stepped) → Section → List ℕ → Stepped
+followersTwo step s bytes = record {
+  answer = cond (isFollower s (decode bytes)) (withSecondFigure (step s bytes .answer)) (step s bytes .answer);
+  section = step s bytes .section;
+}
+
+-- today's step gave each step of a list the answer and the section of document 01's, but that a follower's speed has its second figure beside document 01's; the section at
+-- the end is the same, nothing waits in it, and no vehicle in it left on kind 9
 pub record AsBefore {l : List Done} {s : Section} (run : Run fresh l s) : Type 0 where
-  pub each : results run ≡ resultsBy stepOf01 fresh l
+  pub each : results run ≡ resultsBy (followersTwo stepOf01) fresh l
   pub end : s ≡ endBy stepOf01 fresh l
   pub waiting : (x : Station) → deskOf s x .waiting ≡ 0
   pub unendorsed : (i : ℕ) → i < s .len → kindIn (vehicleAt s i .movement) ≡ LAST-TRAIN → ⊥

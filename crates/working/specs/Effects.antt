@@ -1,5 +1,5 @@
--- Document 01, "Each entry's effect", with T-02 on the reply that a vehicle brings and T-03 on a TRAIN endorsed as the last: speeds, forms, and the desk after a
--- departure and after a receipt. S is the entry's station, O the other.
+-- Document 01, "Each entry's effect", with T-02 on the reply that a vehicle brings, T-03 on a TRAIN endorsed as the last and T-07 on a follower's speed: speeds, forms,
+-- and the desk after a departure and after a receipt. S is the entry's station, O the other.
 use Prim.Native.Nat.{_+_, _-_, ℕ}
 use Rattle.working.specs.Acts as acts
 use Rattle.working.specs.Acts.{Act}
@@ -28,11 +28,11 @@ openSpeed Clear = Kmh 15
 openSpeed Night = Kmh 10
 openSpeed Impaired = Walking
 
--- a train that follows another: "25 in view 1 and 10 otherwise"
+-- a train that follows another; T-07: "25 for straight with a clear view and 10 for elsewhere; in views 2 and 3 both are 10"
 abbrev pub followSpeed : View → Speed
-followSpeed Clear = Kmh 25
-followSpeed Night = Kmh 10
-followSpeed Impaired = Kmh 10
+followSpeed Clear = Both 25 10
+followSpeed Night = Both 10 10
+followSpeed Impaired = Both 10 10
 
 -- "TRAIN booked if sent was 0"
 abbrev pub trainSpeed : Bool → View → Speed
@@ -45,7 +45,7 @@ isSlow NoSpeed = false
 isSlow Walking = true
 isSlow (Kmh k) = eqb k 15 || eqb k 10
 isSlow Booked = false
-isSlow (Both straight elsewhere) = false  -- no order with T/B 602 has two figures
+isSlow (Both straight elsewhere) = false  -- none of the three, so not 10/10 either: T/B 602 has one figure
 
 -- ---- forms, a sum
 

@@ -455,10 +455,11 @@ mod tests {
             };
             let mut cases = departures(station).into_iter();
             for given_up in [0, 1, 7] {
-                for speeds in [
-                    [Speed::Booked; 3],
-                    [Speed::Limit(25), Speed::Limit(10), Speed::Limit(10)],
-                ] {
+                let follower = [25, 10, 10].map(|straight| Speed::Two {
+                    straight,
+                    elsewhere: 10,
+                });
+                for speeds in [[Speed::Booked; 3], follower] {
                     for speed in speeds {
                         let (name, handed) = cases.next().unwrap();
                         let (answer, train) = train_of(station, &handed);

@@ -120,6 +120,14 @@ pub fn answer(form: u16, forms: u16, speed: Speed) -> Accepted {
     Accepted { form, forms, speed }
 }
 
+/// A speed with two figures: on straight track with a clear view, and elsewhere.
+pub const fn two(straight: u8, elsewhere: u8) -> Speed {
+    Speed::Two {
+        straight,
+        elsewhere,
+    }
+}
+
 /// A desk with every figure above 0, so that a figure altered by mistake shows.
 pub const USED_DESK: Desk = Desk {
     clock: 40,

@@ -10,15 +10,25 @@ use Rattle.working.specs.declared.View.{View}
 use borrow.Author.Needs.{needs}
 use denote.Enum.Declared.{tagOf}
 use mathlib.Core.Logic.{_⊎_, inl, inr}
-use mathlib.Core.Path.{_≡_, refl}
+use mathlib.Core.Path.{_∙_, _≡_, refl}
 use native.Mathlib.Omega.{arith}
 
--- a view's cases are counted from 0: 1 is night or obstructed, 2 impaired
-ten : (view : View) → (tagOf the-type view ≡ 1) ⊎ (tagOf the-type view ≡ 2) → Both 10 10 ≡ followSpeed view
-ten Clear (inl is) = absurd (omega (arith, is))
-ten Clear (inr is) = absurd (omega (arith, is))
-ten Night is = refl
-ten Impaired is = refl
+-- a view's cases are counted from 0: clear, night or obstructed, impaired
+clear : (view : View) → tagOf the-type view ≡ 0 → Both 25 10 ≡ followSpeed view
+clear Clear is = refl
+clear Night is = absurd (omega (arith, is))
+clear Impaired is = absurd (omega (arith, is))
+
+not-clear : (view : View) → (tagOf the-type view ≡ 1) ⊎ (tagOf the-type view ≡ 2) → Both 10 10 ≡ followSpeed view
+not-clear Clear (inl is) = absurd (omega (arith, is))
+not-clear Clear (inr is) = absurd (omega (arith, is))
+not-clear Night is = refl
+not-clear Impaired is = refl
 
 pub follower-speed-spec : {M : Type 1} → statement M
-follower-speed-spec = tie.close (tie.spec (λ c. search needs) (λ c. search needs) (λ c. ten (c .before .args .view) (c .match .keys2)))
+follower-speed-spec =
+    tie.close
+    (tie.spec
+    (λ c. search needs) (λ c κs. search needs) (λ c κs. search needs)
+    (λ c. c .both .ensures ∙ clear (c .before .before .before .args .view) (c .before .before .match .keys1))
+    (λ c. c .both2 .ensures ∙ not-clear (c .before .before .args .view) (c .before .match .keys2)))

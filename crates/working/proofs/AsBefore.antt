@@ -20,7 +20,7 @@ use Rattle.working.proofs.Tests.{NoneHolds, both, no-test, none-holds, 
 use Rattle.working.proofs.Vehicles.{From, NotFrom, every-end, nearest, not-other, number-same, ordered-far}
 use Rattle.working.specs.Acts as acts
 use Rattle.working.specs.Acts.{Act}
-use Rattle.working.specs.Document01.{AnsweredAsBefore, arriveDesk01, atSpeed, decode01, entered01, followersTwo, follows, holdsAfter01, isFollower, isKindNine}
+use Rattle.working.specs.Document01.{AnsweredAsBefore, arriveDesk01, atSpeed, decode01, entered01, followersTwo, holdsAfter01, isFollower, isKindNine}
 use Rattle.working.specs.Document01.{onDecoded01, planOf01, stepOf01, testsOf01, trainSpeed01, trainTests01, withElsewhere, withSecondFigure}
 use Rattle.working.specs.Effects.{Arrive, Depart, Plan, Refuse, arriveDesk, effectOf, grantedIn, otherDesk, ownDesk, replied, trainSpeed}
 use Rattle.working.specs.Events.{At, Bad, Begin, Decoded, Meet, Resume, Says, decode}
@@ -28,6 +28,7 @@ use Rattle.working.specs.Reasons.{departTests, mayEnter, testsOf, trainT
 use Rattle.working.specs.Refusals.{Test, firstOf}
 use Rattle.working.specs.Runs.{Done, Run, acceptsBy, endBy, next, resultsBy, resultsOf, stop}
 use Rattle.working.specs.Sections.{deskOf, freshDesk, insertAt, nearestAt, noneRefused, otherAt, vehiclesOf, withDesk, withHolds, withVehicles}
+use Rattle.working.specs.Speeds.{follows}
 use Rattle.working.specs.Steps.{doneBy, entered, ifMade, metAt, onDecoded, planOf, stepOf, unlessRefused}
 use Rattle.working.specs.Turns.{isAccepted}
 use Rattle.working.specs.WellMade.{isOpener, wellMade}

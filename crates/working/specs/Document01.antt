@@ -15,7 +15,7 @@ use Rattle.working.specs.Reasons.{departTests, testsOf}
 use Rattle.working.specs.Refusals.{Test, firstOf}
 use Rattle.working.specs.Runs.{Done, Run, acceptsBy, endBy, results, resultsBy}
 use Rattle.working.specs.Sections.{deskOf, fresh, nearestAt, numberAt, vehiclesOf, withHolds}
-use Rattle.working.specs.Speeds.{followFigure01, viewNumber}
+use Rattle.working.specs.Speeds.{followFigure01, follows, viewNumber}
 use Rattle.working.specs.Steps.{doneBy, entered, ifMade, refused, unlessRefused}
 use Rattle.working.specs.WellMade.{wellMade}
 use Rattle.working.specs.declared.Answer.the-variants as answer
@@ -129,14 +129,7 @@ abbrev pub withSecondFigure : Answer → Answer
 withSecondFigure (answer.Refused why) = answer.Refused why
 withSecondFigure (answer.Accepted form forms speed) = answer.Accepted form forms (withElsewhere speed)
 
--- a follower: a TRAIN, endorsed or not, of a station whose sent is not 0
-abbrev pub follows : Act → Desk → Bool
-follows (acts.Open view class asked) d = false
-follows (acts.Through view) d = false
-follows (acts.Return asked granted) d = false
-follows (acts.Train endorsed view asked granted) d = not (eqb (d .sent) 0)
-follows (acts.Receive sender form) d = false
-
+-- a follower's step
 abbrev pub isFollower : Section → Decoded → Bool
 isFollower s (Bad why) = false
 isFollower s (Says Begin) = false

@@ -57,14 +57,14 @@ hasTwo Booked = false
 hasTwo (Both straight elsewhere) = true
 
 -- T/409 is the 64 of the sum, T/B 602 the 1
-pub record FollowersTwo (follower : Bool) (order : Order) : Type 0 where
+pub record TwoOn (follower : Bool) (order : Order) : Type 0 where
   pub speed : hasTwo (order .speed) ≡ follower
   pub caution : eqb (order .forms / 64 % 2) 1 ≡ follower
   pub unopened : follower ≡ true → eqb (order .forms % 2) 1 ≡ false
 
 abbrev pub TwoIn : Bool → Plan → Type 0
 TwoIn follower (Refuse why) = Unit {0}
-TwoIn follower (Depart p) = FollowersTwo follower (p .order)
+TwoIn follower (Depart p) = TwoOn follower (p .order)
 TwoIn follower (Arrive d) = Unit {0}
 
 -- whatever departs: its order has two figures, and T/409, exactly where it follows another, and T/B 602 then never

@@ -65,6 +65,15 @@ arriveDesk01 x d time v =
     cond (eqb (v .sender) (numberAt x)) (ownDesk d time (v .movement))
     (withHolds (holdsAfter01 (v .movement) (d .clears .holds)) (otherDesk d time (v .class) (v .movement)))
 
+-- ---- what T-03 altered
+
+-- a whole entry of kind 9, "which was refusal 2", whatever else is right or wrong with it; so no TRAIN that comes to tests and effects is endorsed
+abbrev pub isKindNine : List ℕ → Bool
+isKindNine bytes = not (isCut bytes) && eqb (entryIn bytes .kind) 9
+
+unfoldable pub decode01 : List ℕ → Decoded
+decode01 bytes = cond (isKindNine bytes) (Bad UnknownKind) (decode bytes)
+
 -- ---- what T-07 altered
 
 -- "TRAIN booked if sent was 0, else 25 in view 1 and 10 otherwise"
@@ -78,7 +87,7 @@ atSpeed speed (Refuse why) = Refuse why
 atSpeed speed (Depart p) = Depart (record { desk = p .desk; vehicle = p .vehicle; order = record { forms = p .order .forms; speed = speed } })
 atSpeed speed (Arrive d) = Arrive d
 
--- ---- each kind
+-- ---- the step
 
 abbrev pub effectOf01 : Act → Station → Desk → ℕ → Vehicle → Plan
 effectOf01 (acts.Open view class asked) x d time v = effectOf (acts.Open view class asked) x d time v
@@ -87,17 +96,6 @@ effectOf01 (acts.Return asked granted) x d time v = effectOf (acts.Return asked 
 effectOf01 (acts.Train endorsed view asked granted) x d time v =
     atSpeed (trainSpeed01 (eqb (d .sent) 0) view) (effectOf (acts.Train endorsed view asked granted) x d time v)
 effectOf01 (acts.Receive sender form) x d time v = Arrive (arriveDesk01 x d time v)
-
--- ---- what T-03 altered
-
--- a whole entry of kind 9, "which was refusal 2", whatever else is right or wrong with it; so no TRAIN that comes to the tests and effects above is endorsed
-abbrev pub isKindNine : List ℕ → Bool
-isKindNine bytes = not (isCut bytes) && eqb (entryIn bytes .kind) 9
-
-unfoldable pub decode01 : List ℕ → Decoded
-decode01 bytes = cond (isKindNine bytes) (Bad UnknownKind) (decode bytes)
-
--- ---- the step
 
 abbrev pub planOf01 : Act → Station → Bool → Desk → ℕ → Vehicle → Plan
 planOf01 act x force d time v = unlessRefused (firstOf (testsOf01 act x force d time v)) (effectOf01 act x d time v)

@@ -298,7 +298,7 @@ impl Order {
 /// ```
 /// use lupinshift::Speed;
 ///
-/// assert_eq!(Speed::from_number(131_072 + 25), Some(Speed::Kmh(25)));
+/// assert_eq!(Speed::from_number(131_072 + 15), Some(Speed::Kmh(15)));
 /// let both = Speed::TwoFigures { straight: 25, elsewhere: 10 };
 /// assert_eq!(both.number(), 262_144 + 256 * 25 + 10);
 /// assert_eq!(Speed::from_number(both.number()), Some(both));

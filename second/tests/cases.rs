@@ -7,6 +7,8 @@ use std::sync::LazyLock;
 
 use second::cases::{all, expected, input, Case, LONGEST};
 use second::figures::Figures;
+use second::generator::{any_section, Generator, Options};
+use second::random::Random;
 use second::{Entry, Kind, Section, Station, Vehicle};
 
 static CASES: LazyLock<Vec<Case>> = LazyLock::new(all);
@@ -75,9 +77,29 @@ fn step_case(figures: &Figures, bytes: &[u8]) -> Case {
     }
 }
 
-/// Both forms of the step give this answer and leave these figures.
+/// Both forms of the step give this answer and leave these figures. The bytes are one
+/// entry, perhaps a cut one, so a run of them comes to the same; or none, and it comes
+/// to nothing.
 #[track_caller]
 fn expect_step(before: &Figures, bytes: &[u8], answer: &str, after: &Figures) {
+    if bytes.is_empty() {
+        expect_step_and_run(before, bytes, (answer, after), ("0 0 none", before));
+    } else {
+        let accepted = u8::from(answer.starts_with("ok "));
+        let run = format!("1 {accepted} {answer}");
+        expect_step_and_run(before, bytes, (answer, after), (&run, after));
+    }
+}
+
+/// Both forms of the step give this answer and leave these figures, and a run comes to
+/// these words and leaves those figures.
+#[track_caller]
+fn expect_step_and_run(
+    before: &Figures,
+    bytes: &[u8],
+    (answer, after): (&str, &Figures),
+    (run, after_run): (&str, &Figures),
+) {
     let section = section_in_hex(after);
     let expected = lines(&[
         format!("step {}", bytes.len()),
@@ -85,6 +107,7 @@ fn expect_step(before: &Figures, bytes: &[u8], answer: &str, after: &Figures) {
         format!("value {section}"),
         format!("memory {answer}"),
         format!("memory {section}"),
+        format!("run {run} {}", digest(after_run)),
     ]);
     assert_eq!(step_case(before, bytes).expected(), expected);
 }
@@ -228,13 +251,16 @@ fn an_empty_log_by_hand() {
 }
 
 /// No bytes are handed to the step: 5 leaves the section, and 1 is counted as of
-/// no station.
+/// no station. As a log they have no entry.
 #[test]
 fn sections_in_hex_by_hand() {
     #[track_caller]
     fn expect(before: &Figures, answer: &str, section: &str) {
-        let expected =
-            format!("step 0\nvalue {answer}\nvalue {section}\nmemory {answer}\nmemory {section}\n");
+        let digest = digest(before);
+        let expected = format!(
+            "step 0\nvalue {answer}\nvalue {section}\nmemory {answer}\nmemory {section}\n\
+             run 0 0 none {digest}\n"
+        );
         assert_eq!(step_case(before, &[]).expected(), expected);
     }
     // Vehicles present and in force, the three counts, the desks of A and B, and
@@ -388,6 +414,209 @@ fn the_last_train_by_hand() {
 }
 
 #[test]
+fn a_train_booked_in_view_2_by_hand() {
+    // 32 and 128, with 8 from A and 16 from B.
+    for (station, desk, answer) in [(1, DESK_A, "ok 8 168 B"), (2, DESK_B, "ok 8 176 B")] {
+        let before = figures(&[
+            (IN_FORCE, &[1]),
+            (desk, &[0, 30, 0, 7, 0, 0, 0, 0, 0, 0, 0, 2]),
+        ]);
+        let after = figures(&[
+            (0, &[5, station, 0, 8, 3 - station, 0, 0, 0, 0, 0]),
+            (PRESENT, &[1, 1]),
+            (desk, &[0, 45, 0, 8, 1, 1, 0, 45, 0, 0, 0, 1]),
+        ]);
+        let train = [0x0F, 5, station, 0, 45, 2];
+        expect_step(&before, &train, answer, &after);
+        assert!(CASES.contains(&step_case(&before, &train)));
+    }
+}
+
+#[test]
+fn a_run_with_a_cut_end_by_hand() {
+    // A holds 3, and B owes them.
+    let before = figures(&[
+        (IN_FORCE, &[1, 0, 0, 0, 3, 0, 0, 0, 5, 0, 0, 0, 7]),
+        (DESK_A, &[0, 30, 0, 7, 0, 0, 0, 0, 0, 0, 0, 3]),
+        (DESK_B, &[0, 60, 0, 0, 0, 0, 0, 0, 0, 0, 0, 0, 3]),
+    ]);
+    let log = [
+        &[0x0F, 5, 1, 0, 40, 1][..],
+        // 29 minutes behind it: 19, counted for A.
+        &[0x0F, 5, 1, 0, 69, 1],
+        &[0x0F, 5, 1, 0, 70, 2],
+        // B has the first of them.
+        &[0x87, 6, 2, 0, 75, 1, 0, 8],
+        // Cut, counted for no station.
+        &[0x0F, 5, 1],
+    ]
+    .concat();
+    let after_step = figures(&[
+        (0, &[5, 1, 0, 8, 2, 0, 0, 0, 0, 0]),
+        (PRESENT, &[1, 1, 0, 0, 0, 3, 0, 0, 0, 5, 0, 0, 0, 7]),
+        (DESK_A, &[0, 40, 0, 8, 1, 1, 0, 40, 0, 0, 0, 2]),
+        (DESK_B, &[0, 60, 0, 0, 0, 0, 0, 0, 0, 0, 0, 0, 3]),
+    ]);
+    let after_run = figures(&[
+        (0, &[5, 1, 0, 9, 2, 0, 0, 0, 0, 0]),
+        (PRESENT, &[1, 1, 0, 0, 0, 4, 0, 0, 0, 5, 0, 0, 0, 8]),
+        (DESK_A, &[0, 70, 0, 9, 2, 1, 0, 70, 0, 0, 0, 1]),
+        (DESK_B, &[0, 75, 0, 0, 0, 0, 0, 0, 0, 0, 0, 0, 2]),
+    ]);
+    let step = ("ok 8 168 B", &after_step);
+    expect_step_and_run(&before, &log, step, ("5 3 no 1", &after_run));
+    assert!(CASES.contains(&step_case(&before, &log)));
+}
+
+/// A vehicle of each kind from either station.
+const VEHICLES: [[u8; 10]; 10] = [
+    [2, 1, 0, 7, 2, 0, 3, 4, 0, 0],
+    [4, 1, 0, 5, 2, 0, 3, 0, 0, 0],
+    [5, 1, 0, 3, 2, 0, 0, 0, 0, 0],
+    [9, 1, 0, 2, 2, 0, 0, 0, 0, 2],
+    [3, 1, 0, 9, 2, 0, 1, 0, 0, 0],
+    [2, 2, 0, 9, 1, 0, 3, 4, 0, 0],
+    [9, 2, 0, 2, 1, 0, 0, 0, 0, 2],
+    [5, 2, 0, 4, 1, 0, 0, 0, 0, 0],
+    [4, 2, 0, 6, 1, 0, 3, 0, 0, 0],
+    [3, 2, 0, 8, 1, 0, 1, 0, 0, 0],
+];
+
+/// These vehicles, in force, with a clock of 500 and a departure at 480 at each desk.
+fn with_vehicles() -> Figures {
+    let desk = [0x01, 0xF4, 0, 40, 6, 1, 0x01, 0xE0, 1, 3, 4, 5, 2, 6];
+    figures(&[
+        (0, &VEHICLES.concat()),
+        (PRESENT, &[10, 1, 0, 0, 0, 3, 0, 0, 0, 5, 0, 0, 0, 7]),
+        (DESK_A, &desk),
+        (DESK_B, &desk),
+    ])
+}
+
+/// The two that face one another meet and head to A; A's opener comes home at 500.
+const MEET_AND_RECEIVE: [u8; 14] = [0x83, 7, 1, 1, 0, 9, 0x87, 6, 1, 0x01, 0xF4, 1, 0, 7];
+
+#[test]
+fn a_run_among_vehicles_by_hand() {
+    let before = with_vehicles();
+    // RESUME with vehicles in the section is 8; then a TRAIN of B at 510.
+    let log = [
+        &MEET_AND_RECEIVE[..],
+        &[0x01, 8],
+        &[0x0F, 5, 2, 0x01, 0xFE, 1],
+    ]
+    .concat();
+    // Heading and met of both.
+    let mut met = before;
+    met[44..46].copy_from_slice(&[1, 1]);
+    met[54..56].copy_from_slice(&[1, 1]);
+    // The opener is gone, and B's train stands behind all others.
+    let after_run = figures(&[
+        (0, &met[10..100]),
+        (90, &[5, 2, 0, 41, 1, 0, 0, 0, 0, 0]),
+        (PRESENT, &[10, 1, 0, 0, 0, 3, 0, 0, 0, 5, 0, 0, 0, 8]),
+        (DESK_A, &[0x01, 0xF4, 0, 40, 5, 0, 0, 0, 0, 3, 4, 5, 2, 6]),
+        (
+            DESK_B,
+            &[0x01, 0xFE, 0, 41, 7, 1, 0x01, 0xFE, 1, 3, 4, 4, 2, 6],
+        ),
+    ]);
+    let run = ("4 3 ok 41 112 25/10", &after_run);
+    expect_step_and_run(&before, &log, ("ok 0 0 -", &met), run);
+    assert!(CASES.contains(&step_case(&before, &log)));
+}
+
+#[test]
+fn runs_from_ill_made_sections_by_hand() {
+    #[track_caller]
+    fn expect(section: &Figures, log: &[u8], run: &str) {
+        expect_step_and_run(section, log, ("no 5", section), (run, section));
+        assert!(CASES.contains(&step_case(section, log)));
+    }
+    // B has sent 13. Three entries, the last a TRAIN of A at 510.
+    let mut sent_13 = with_vehicles();
+    sent_13[DESK_B + 4] = 13;
+    let log = [&MEET_AND_RECEIVE[..], &[0x0F, 5, 1, 0x01, 0xFE, 1]].concat();
+    expect(&sent_13, &log, "3 0 no 5");
+    // Not in force. BEGIN, bytes that are else 3 and 2, and a cut end, else 1, which
+    // is one entry.
+    let mut idle = with_vehicles();
+    idle[IN_FORCE] = 0;
+    let log = [0x01, 1, 0x03, 1, 1, 0x00, 0x87, 6, 1, 0];
+    expect(&idle, &log, "4 0 no 5");
+    // No bytes.
+    expect(&idle, &[], "0 0 none");
+    let fresh = figures(&[]);
+    let mut counted = fresh;
+    counted[OF_NONE + 3] = 1;
+    expect_step_and_run(&fresh, &[], ("no 1", &counted), ("0 0 none", &fresh));
+    assert!(CASES.contains(&step_case(&fresh, &[])));
+}
+
+/// The line of a run, by the step handed each entry in turn. The entries are cut by
+/// their maps alone, and one that is cut ends the log.
+fn stepped_in_turn(section: &Section, mut log: &[u8]) -> String {
+    let mut section = section.clone();
+    let (mut entries, mut accepted) = (0, 0);
+    let mut last = "none".to_owned();
+    while let Some(&map) = log.first() {
+        let length = second::entry_length(map).min(log.len());
+        let is_cut = length < second::entry_length(map);
+        let (entry, rest) = log.split_at(length);
+        let (answer, after) = second::step(&section, entry);
+        section = after;
+        entries += 1;
+        last = match answer {
+            Ok(answer) => {
+                accepted += 1;
+                format!("ok {} {} {}", answer.form, answer.forms, answer.speed)
+            }
+            Err(refusal) => format!("no {}", refusal.number()),
+        };
+        log = if is_cut { &[] } else { rest };
+    }
+    let digest = digest(&section.figures().unwrap());
+    format!("run {entries} {accepted} {last} {digest}")
+}
+
+#[track_caller]
+fn expect_run_as_stepped(case: &Case) {
+    let Case::Step { section, bytes } = case else {
+        panic!("{case:?}");
+    };
+    let expected = case.expected();
+    let run = expected.lines().nth(5);
+    assert_eq!(run, Some(&stepped_in_turn(section, bytes)[..]));
+    assert_eq!(expected.lines().count(), 6);
+}
+
+#[test]
+fn every_stored_run_is_as_the_step_handed_each_entry_in_turn() {
+    let steps = CASES
+        .iter()
+        .filter(|case| matches!(case, Case::Step { .. }));
+    steps.for_each(expect_run_as_stepped);
+}
+
+/// Of any section, and of the same made ill.
+#[test]
+fn a_long_run_is_as_the_step_handed_each_entry_in_turn() {
+    let mut random = Random::new(75);
+    for _ in 0..200 {
+        let mut section = Box::new(any_section(&mut random));
+        let start = (*section).clone();
+        let mut generator = Generator::at(start, random.word(), Options::default());
+        let bytes: Vec<u8> = (0..30).flat_map(|_| generator.next_step()).collect();
+        expect_run_as_stepped(&Case::Step {
+            section: section.clone(),
+            bytes: bytes.clone(),
+        });
+        section.desks[0].sent = 13;
+        expect_run_as_stepped(&Case::Step { section, bytes });
+    }
+}
+
+#[test]
 fn sections_have_every_number_of_line_clears_given_up_by_either_station() {
     for station in Station::BOTH {
         let mut given_up = BTreeSet::new();
@@ -406,7 +635,7 @@ fn sections_have_every_number_of_line_clears_given_up_by_either_station() {
 
 /// Of both kinds of train, from either station, in every view.
 #[test]
-fn sections_have_every_follower() {
+fn sections_have_every_follower_and_every_booked_train() {
     let mut seen = BTreeSet::new();
     for case in CASES.iter() {
         let Case::Step { section, bytes } = case else {
@@ -418,16 +647,14 @@ fn sections_have_every_follower() {
         else {
             continue;
         };
-        // T/409 is a follower's.
-        if accepted.forms & 64 != 0 {
-            seen.insert((kind, station, view, accepted.speed.to_string()));
-        }
+        seen.insert((kind, station, view, accepted.speed.to_string()));
     }
     let mut expected = BTreeSet::new();
     for kind in [5, 9] {
         for station in [1, 2] {
             for (view, follower) in [(1, "25/10"), (2, "10/10"), (3, "10/10")] {
                 expected.insert((kind, station, view, follower.to_owned()));
+                expected.insert((kind, station, view, "B".to_owned()));
             }
         }
     }
@@ -780,10 +1007,14 @@ fn a_step_refused_with_5_leaves_every_figure() {
         assert_eq!(is_5, !section.is_well_made());
         if is_5 {
             ill_made += 1;
-            let section = section_in_hex(&section.figures().unwrap());
+            let figures = section.figures().unwrap();
+            let section = section_in_hex(&figures);
             assert_eq!(lines[2], format!("value {section}"));
             assert_eq!(lines[3], "memory no 5");
             assert_eq!(lines[4], format!("memory {section}"));
+            let digest = digest(&figures);
+            let run = lines[5].strip_suffix(&format!(" {digest}")).unwrap();
+            assert!(run.ends_with(" 0 no 5") || run == "run 0 0 none", "{run}");
         }
     }
     assert!(ill_made > 100, "{ill_made}");
@@ -875,7 +1106,8 @@ fn the_positions_have_every_outcome() {
 #[test]
 fn the_expected_output_stays_below_the_limit_of_the_other_program() {
     let expected = expected(&CASES);
-    assert!(expected.len() < 1_048_576, "{}", expected.len());
+    // The limit is 1,048,576 bytes; some room is kept below it.
+    assert!(expected.len() < 900_000, "{}", expected.len());
     assert!(expected.ends_with('\n'));
     let starts = ["log ", "step ", "write ", "read "];
     let started = expected

@@ -12,6 +12,8 @@ use crate::text::write_number;
 use crate::text::write_numbers;
 use figures::PRESENT;
 use figures::section_figures;
+use step::Last;
+use step::Ran;
 use working::Answer;
 use working::Entry;
 use working::Read;
@@ -114,6 +116,25 @@ pub(crate) fn write_stepped(word: &[u8], after: Stepped) {
     let answer = after.answer;
     write(word);
     write_answer(answer);
+    write_number(digest(&section_figures(s)));
+    write(b"\n");
+}
+
+// The last answer of a run, where it had an entry.
+fn write_last(last: Last) {
+    match last {
+        Last::Answered(answer) => write_answer(answer),
+        Last::NoEntry => write(b" none"),
+    }
+}
+
+// What a log comes to: its entries, those accepted, the last answer, and the digest of the section after it.
+pub(crate) fn write_ran(ran: Ran) {
+    let s = ran.section;
+    let last = ran.last;
+    write_figure(b"run", ran.entries as u64);
+    write_number(ran.accepted as u64);
+    write_last(last);
     write_number(digest(&section_figures(s)));
     write(b"\n");
 }

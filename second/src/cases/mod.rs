@@ -1,11 +1,11 @@
 //! Stored cases for another program, and what must come of each.
 //!
 //! The cases run what a log from the fresh section never reaches: both forms of
-//! the step on sections given figure by figure, the reader at any position, and
-//! the writer. [`all`] is the one list of them; [`input`] gives it as the bytes
-//! that the other program reads, and [`expected`] as the lines that it must
-//! write, computed here with the reader, the writer and the two forms of the
-//! step of this crate. The readers and writers are of both lines; the steps on a
+//! the step, and a run, on sections given figure by figure, the reader at any
+//! position, and the writer. [`all`] is the one list of them; [`input`] gives it as
+//! the bytes that the other program reads, and [`expected`] as the lines that it must
+//! write, computed here with the reader, the writer, the two forms of the step and
+//! the run of this crate. The readers and writers are of both lines; the steps on a
 //! double line are stored by themselves, in [`crate::double::cases`].
 
 mod counts;
@@ -13,6 +13,7 @@ mod double;
 mod given_up;
 mod logs;
 mod positions;
+mod runs;
 mod sections;
 mod waiting;
 mod writer;
@@ -22,10 +23,10 @@ use std::fmt::{self, Write};
 use crate::entry::{Entry, Table};
 use crate::figures::{digest, Figures, PLACES_LENGTH, PLACE_LENGTH};
 use crate::lister::Printed;
-use crate::log::{Reader, Writer};
+use crate::log::{Reader, Run, Writer};
 use crate::refusal::Refusal;
 use crate::section::Section;
-use crate::step::{step, step_in_place};
+use crate::step::{step, step_in_place, Answer};
 
 /// The most bytes of a log, of the bytes of a step or of a buffer.
 pub const LONGEST: usize = 4_096;
@@ -75,11 +76,11 @@ pub enum Case {
         /// The log.
         log: Vec<u8>,
     },
-    /// Bytes handed to the step.
+    /// Bytes handed to the step, and run as a log.
     Step {
         /// The section lent, well made or not.
         section: Box<Section>,
-        /// The bytes handed.
+        /// The bytes handed, which are the log as well.
         bytes: Vec<u8>,
     },
     /// An entry appended to a buffer, and written at its front.
@@ -308,7 +309,20 @@ fn write_step(out: &mut impl Write, section: &Section, bytes: &[u8]) -> fmt::Res
     let mut in_memory = section.clone();
     let answer = step_in_place(&mut in_memory, bytes);
     writeln!(out, "memory {}", Printed(answer))?;
-    write_section(out, "memory", &in_memory)
+    write_section(out, "memory", &in_memory)?;
+    write_run(out, section, bytes)
+}
+
+/// What a run of the log from this section comes to. The accepted are counted by
+/// their answers, since the section's counts may stand at their largest value.
+fn write_run(out: &mut impl Write, section: &Section, log: &[u8]) -> fmt::Result {
+    let mut run = Run::from_section(section.clone(), log);
+    let answers: Vec<Answer> = run.by_ref().map(|line| line.answer).collect();
+    let entries = answers.len();
+    let accepted = answers.iter().filter(|answer| answer.is_ok()).count();
+    let last = LastWords(answers.last().copied());
+    let digest = digest(&figures_of(run.section()));
+    writeln!(out, "run {entries} {accepted} {last} {digest}")
 }
 
 fn write_writing(
@@ -409,6 +423,18 @@ impl fmt::Display for ReadWords {
                 entry.sender,
                 entry.form
             ),
+        }
+    }
+}
+
+/// The last answer of a run, if it had an entry.
+struct LastWords(Option<Answer>);
+
+impl fmt::Display for LastWords {
+    fn fmt(&self, formatter: &mut fmt::Formatter<'_>) -> fmt::Result {
+        match self.0 {
+            None => formatter.write_str("none"),
+            Some(answer) => Printed(answer).fmt(formatter),
         }
     }
 }

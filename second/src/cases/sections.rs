@@ -3,7 +3,7 @@
 use std::collections::BTreeMap;
 
 use super::counts::{self, DISTINCT};
-use super::{given_up, waiting, Case, LONGEST, NO_ENTRIES};
+use super::{given_up, runs, waiting, Case, LONGEST, NO_ENTRIES};
 use crate::entry::{decode, Entry, Kind};
 use crate::generator::{any_section, bytes_of, Generator, Options};
 use crate::random::Random;
@@ -40,11 +40,13 @@ pub(super) fn cases() -> Vec<Case> {
     handed.extend(desks_at_their_limits());
     handed.extend(receipts());
     handed.extend(waiting::handed());
+    handed.extend(booked_by_night());
     handed.extend(given_up::handed());
     handed.extend(meetings());
     handed.extend(counts::handed());
     handed.extend(edges());
     handed.extend(strewn());
+    handed.extend(runs::handed());
     let case = |(section, bytes)| Case::Step {
         section: Box::new(section),
         bytes,
@@ -780,6 +782,22 @@ pub(super) fn one_vehicle(
     section
 }
 
+/// A TRAIN that is no follower, in view 2. In views 1 and 3 it stands among the
+/// replies by train and the desks at their limits.
+fn booked_by_night() -> Vec<Handed> {
+    let leave = |station| {
+        let desk = Desk {
+            clock: 30,
+            last_form: 7,
+            holds: 2,
+            ..Desk::default()
+        };
+        let entry = Entry::train(station, 45, 2, 0, 0);
+        hand(at_desk(station, desk), &entry)
+    };
+    Station::BOTH.map(leave).into()
+}
+
 fn receipts() -> Vec<Handed> {
     Station::BOTH.into_iter().flat_map(receipts_at).collect()
 }
@@ -1048,6 +1066,7 @@ mod tests {
         let others = [
             crammed_cases(),
             desks_at_their_limits(),
+            booked_by_night(),
             receipts(),
             meetings(),
             edges(),
@@ -1079,6 +1098,7 @@ mod tests {
             13, 0, 9, 19, 19, 0, 19, 0,
         ];
         assert_eq!(answers(&desks_at_their_limits()), [desk, desk].concat());
+        assert_eq!(answers(&booked_by_night()), [0, 0]);
         let receipt = [
             0, 0, 0, 0, 0, 0, 0, 0, 0, 0, 0, 0, 0, 0, 0, 21, 21, 21, 21, 20, 20, 9,
         ];

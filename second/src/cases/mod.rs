@@ -4,8 +4,8 @@
 //! the step, and a run, on sections given figure by figure, the reader at any
 //! position, and the writer. [`all`] is the one list of them; [`input`] gives it as
 //! the bytes that the other program reads, and [`expected`] as the lines that it must
-//! write, computed here with the reader, the writer, the two forms of the step and
-//! the run of this crate. The readers and writers are of both lines; the steps on a
+//! write, computed here with the reader, the writer and the two forms of the step of
+//! this crate. The readers and writers are of both lines; the steps on a
 //! double line are stored by themselves, in [`crate::double::cases`].
 
 mod counts;
@@ -23,7 +23,7 @@ use std::fmt::{self, Write};
 use crate::entry::{Entry, Table};
 use crate::figures::{digest, Figures, PLACES_LENGTH, PLACE_LENGTH};
 use crate::lister::Printed;
-use crate::log::{Reader, Run, Writer};
+use crate::log::{Reader, Writer};
 use crate::refusal::Refusal;
 use crate::section::Section;
 use crate::step::{step, step_in_place, Answer};
@@ -316,12 +316,11 @@ fn write_step(out: &mut impl Write, section: &Section, bytes: &[u8]) -> fmt::Res
 /// What a run of the log from this section comes to. The accepted are counted by
 /// their answers, since the section's counts may stand at their largest value.
 fn write_run(out: &mut impl Write, section: &Section, log: &[u8]) -> fmt::Result {
-    let mut run = Run::from_section(section.clone(), log);
-    let answers: Vec<Answer> = run.by_ref().map(|line| line.answer).collect();
+    let (answers, after) = runs::run(section, log);
     let entries = answers.len();
     let accepted = answers.iter().filter(|answer| answer.is_ok()).count();
     let last = LastWords(answers.last().copied());
-    let digest = digest(&figures_of(run.section()));
+    let digest = digest(&figures_of(&after));
     writeln!(out, "run {entries} {accepted} {last} {digest}")
 }
 

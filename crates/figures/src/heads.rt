@@ -1,7 +1,7 @@
 // The head of a case: the bytes before its log, its bytes or its buffer.
-ghost use Prim.Native.Nat.{_*_, _+_};
 ghost use Rattle.working.specs.Positions.{twoAt};
 ghost use mathlib.Core.Path.{_≡_};
+use position::two;
 
 // The bytes of a section.
 pub const SECTION_LENGTH: usize = 282;
@@ -10,13 +10,6 @@ pub const SECTION_LENGTH: usize = 282;
 pub const LONGEST_HEAD: usize = SECTION_LENGTH + 2;
 
 pub type Head = [u8; LONGEST_HEAD];
-
-// The number that two bytes stand for, high byte first.
-fn number(high: u8, low: u8) -> u16
-    ensures { λ r. ⌜ r ≡ high * 256 + low ⌝ }
-{
-    (high as u16) * 256 + low as u16
-}
 
 // The number at a place, high byte first; a byte past the head's end is 0.
 pub fn number_at(head: &Head, at: usize) -> u16
@@ -27,7 +20,7 @@ pub fn number_at(head: &Head, at: usize) -> u16
         return 0;
     }
     if bytes.len() - at == 1 {
-        return number(bytes[at], 0);
+        return two(bytes[at], 0);
     }
-    number(bytes[at], bytes[at + 1])
+    two(bytes[at], bytes[at + 1])
 }

@@ -5,6 +5,8 @@ ghost use mathlib.Core.Path.{_≡_};
 use crate::heads::Head;
 use crate::heads::number_at;
 use bytes::copy;
+use position::COUNTS;
+use position::DESK;
 use position::PLACE;
 use position::counts_in;
 use position::desk_in;
@@ -14,11 +16,6 @@ use working::Desk;
 use working::Entry;
 use working::Section;
 use working::Vehicle;
-
-// The bytes of the counts, and of a desk.
-const COUNTS: usize = 12;
-
-const DESK: usize = 14;
 
 // Where the figures behind the places begin: vehicles present, in force, refused, and the two desks.
 pub const PRESENT: usize = PLACE * Section::PLACES;

@@ -1,7 +1,7 @@
 // Storing and fetching. What is refused alters nothing.
 ghost use Prim.Native.Nat.{_*_, _+_, _<_};
 ghost use Rattle.working.specs.Entries.{pasted};
-ghost use Rattle.working.specs.Positions.{unlessRefused};
+ghost use Rattle.working.specs.Positions.{ifAllowed};
 ghost use Rattle.working.specs.Refusals.{firstOf};
 ghost use Rattle.working.specs.Shelves.{fetchTests, fetchedFrom, isShelf, storeTests, storedIn};
 ghost use lib.ListN.{length};
@@ -45,7 +45,7 @@ fn put_place(shelf: &mut [u8], place: usize, title: &[u8], position: &[u8])
 pub fn store(shelf: &mut [u8], name: &[u8], position: &[u8]) -> Verdict
     ensures { λ r. ⌜
         (r ≡ firstOf (storeTests (now (shelf .entry)) (now (name .entry)) (now (position .entry))))
-        × (now (shelf .exit) ≡ unlessRefused r (now (shelf .entry)) (storedIn (now (shelf .entry)) (now (name .entry)) (now (position .entry))))
+        × (now (shelf .exit) ≡ ifAllowed r (now (shelf .entry)) (storedIn (now (shelf .entry)) (now (name .entry)) (now (position .entry))))
         ⌝ }
 {
     if !is_shelf(shelf) {
@@ -70,7 +70,7 @@ pub fn store(shelf: &mut [u8], name: &[u8], position: &[u8]) -> Verdict
 pub fn fetch(shelf: &[u8], name: &[u8], buffer: &mut [u8]) -> Verdict
     ensures { λ r. ⌜
         (r ≡ firstOf (fetchTests (now (shelf .entry)) (now (name .entry)) (now (buffer .entry))))
-        × (now (buffer .exit) ≡ unlessRefused r (now (buffer .entry)) (fetchedFrom (now (shelf .entry)) (now (name .entry)) (now (buffer .entry))))
+        × (now (buffer .exit) ≡ ifAllowed r (now (buffer .entry)) (fetchedFrom (now (shelf .entry)) (now (name .entry)) (now (buffer .entry))))
         ⌝ }
 {
     if !is_shelf(shelf) {

@@ -13,9 +13,10 @@ use Rattle.working.proofs.Positions.{bytes-same, position-fresh, positi
 use Rattle.working.proofs.Scans.{scanned-each}
 use Rattle.working.proofs.Shelves.{AllNames, Distinct, added, distinct-added, empty-laid, every-added, fetch-laid, laidOut, shelf-laid, store-laid}
 use Rattle.working.proofs.Tests.{and, both, clash, each-holds}
-use Rattle.working.specs.Calls.{Call, CallBy, Calls, CallsHold, Histories, Kept, LastStored, answerOf, fetched, historyOf, isStoreOf, leadsTo, leavesAll, next, noHistory, noneAnswered, noneStores, start, stepped, stepsFrom, stop, stored, withCall, withCalls}
+use Rattle.working.specs.Calls.{Call, CallBy, Calls, CallsHold, Histories, Kept, LastStored, answerOf, fetched, historyOf, isStoreOf, leadsTo, leavesAll, next, noHistory}
+use Rattle.working.specs.Calls.{noneAnswered, noneStores, start, stepped, stepsFrom, stop, stored, withCall, withCalls}
 use Rattle.working.specs.Entries.{every, pasted}
-use Rattle.working.specs.Positions.{isPosition, positionOf, refusalIn, refusalOf, sameBytes, sectionAt, stepTests, unlessRefused}
+use Rattle.working.specs.Positions.{ifAllowed, isPosition, positionOf, refusalIn, refusalOf, sameBytes, sectionAt, stepTests}
 use Rattle.working.specs.Refusals.{firstOf}
 use Rattle.working.specs.Runs as runs
 use Rattle.working.specs.Runs.{Run, inPlace}
@@ -202,8 +203,8 @@ module _ {l : List Call} {k : Kept} (h : Holds l k) where
 
       abbrev Steps : Verdict → Type 0
       Steps v =
-          answer ≡ unlessRefused v (refusalIn v) (refusalOf (stepOf (sectionAt (k .position)) entry .answer))
-          → m .position ≡ unlessRefused v (k .position) (positionOf (stepOf (sectionAt (k .position)) entry .section))
+          answer ≡ ifAllowed v (refusalIn v) (refusalOf (stepOf (sectionAt (k .position)) entry .answer))
+          → m .position ≡ ifAllowed v (k .position) (positionOf (stepOf (sectionAt (k .position)) entry .section))
           → Holds (l ++ step ∷ []) m
 
       holds-step : Steps (firstOf (stepTests (k .position) numbers))
@@ -255,7 +256,7 @@ module _ {l : List Call} {k : Kept} (h : Holds l k) where
 
       module _ (answer : ℕ) where
         abbrev Stored : Verdict → Type 0
-        Stored v = answer ≡ refusalIn v → m .shelf ≡ unlessRefused v (k .shelf) (storedIn (k .shelf) name (k .position)) → Holds (l ++ stored name answer ∷ []) m
+        Stored v = answer ≡ refusalIn v → m .shelf ≡ ifAllowed v (k .shelf) (storedIn (k .shelf) name (k .position)) → Holds (l ++ stored name answer ∷ []) m
 
         holds-store : Stored (firstOf (storeTests (k .shelf) name (k .position)))
         holds-store =
@@ -272,7 +273,7 @@ module _ {l : List Call} {k : Kept} (h : Holds l k) where
         given : answer ≡ 0 → OnShelf l name → m .position ≡ keeps (after l .under) name → Fetched
 
       abbrev Fetches : Verdict → Type 0
-      Fetches v = answer ≡ refusalIn v → take room (m .position) ≡ unlessRefused v (take room (k .position)) (fetchedFrom (k .shelf) name (take room (k .position))) → Fetched
+      Fetches v = answer ≡ refusalIn v → take room (m .position) ≡ ifAllowed v (take room (k .position)) (fetchedFrom (k .shelf) name (take room (k .position))) → Fetched
 
       leave : isQuiet answer ≡ true → take room (m .position) ≡ take room (k .position) → Fetched
       leave quiet front = refused quiet (sym (take-append-drop room (m .position)) ∙ ap₂ _++_ front behind ∙ take-append-drop room (k .position))

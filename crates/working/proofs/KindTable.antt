@@ -15,7 +15,8 @@ use Rattle.working.specs.declared.Interval.the-variants.{Since, Stopped}
 use Rattle.working.specs.declared.Movement.the-variants.{LastTrain, Open, Return, Through, Train}
 use Rattle.working.specs.declared.Movement.{Movement}
 use Rattle.working.specs.declared.Refusal.the-variants.{AlreadyInForce, BeforeClock, FormsUsed, GrantNotAllowed, GuestHere, HoldsLineClear, IntervalRunning, MayNotEnter}
-use Rattle.working.specs.declared.Refusal.the-variants.{EndsInside, IllMade, MayNotMeet, NoGuest, NoLineClear, NotInForce, NotNearest, OpenerAway, OwesLineClear, TwelveSent, UnknownKind, VehiclePresent}
+use Rattle.working.specs.declared.Refusal.the-variants.{EndsInside, IllMade, MayNotMeet, NoGuest, NoLineClear, NotInForce, NotNearest, OpenerAway, OwesLineClear, TwelveSent}
+use Rattle.working.specs.declared.Refusal.the-variants.{UnknownKind, VehiclePresent}
 use Rattle.working.specs.declared.Section.{Section}
 use Rattle.working.specs.declared.Speed.the-variants.{Booked, Both, Kmh, Walking}
 use Rattle.working.specs.declared.Speed.{Speed}

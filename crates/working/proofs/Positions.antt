@@ -7,7 +7,9 @@ use Rattle.working.proofs.Clauses.{section-made}
 use Rattle.working.proofs.Made.{length-padTo, length-vehicles}
 use Rattle.working.proofs.OwnPlaces.{own-vehicles}
 use Rattle.working.proofs.Tests.{both}
-use Rattle.working.specs.Positions.{ReadThenWritten, SpeedsTold, StepWritten, WrittenThenRead, byteAt, countsBytes, countsIn, deskBytes, deskIn, fourAt, inFour, inTwo, intervalBytes, intervalOf, isFigures, isPosition, minuteOf, movementBytes, movementOf, placesBytes, positionOf, runningOf, sameBytes, sectionAt, speedNumber, twoAt, vehicleBytes, vehicleIn, vehiclesIn}
+use Rattle.working.specs.Positions.{ReadThenWritten, SpeedsTold, StepWritten, WrittenThenRead, byteAt, countsBytes, countsIn, deskBytes, deskIn, fourAt, inFour, inTwo}
+use Rattle.working.specs.Positions.{intervalBytes, intervalOf, isFigures, isPosition, minuteOf, movementBytes, movementOf, placesBytes, positionOf, runningOf, sameBytes}
+use Rattle.working.specs.Positions.{sectionAt, speedNumber, twoAt, vehicleBytes, vehicleIn, vehiclesIn}
 use Rattle.working.specs.Sections.{fresh, padTo, vehiclesOf, withVehicles}
 use Rattle.working.specs.WellMade.{oneIf, wellMade}
 use Rattle.working.specs.declared.Counts.{Counts}

@@ -102,7 +102,7 @@ placesBytes zero l = []
 placesBytes (suc n) [] = replicate 10 0 ++ placesBytes n []
 placesBytes (suc n) (v ∷ l) = vehicleBytes v ++ placesBytes n l
 
--- "The vehicles present are the places before the first zero place": a vehicle's place begins with its kind, which is none of 0
+-- "The vehicles present are the places before the first zero place": a vehicle's place begins with its kind, which is never 0
 unfoldable pub vehiclesIn : ℕ → List ℕ → List Vehicle
 vehiclesIn zero bytes = []
 vehiclesIn (suc n) bytes = cond (eqb (byteAt bytes 0) 0) [] (vehicleIn (take 10 bytes) ∷ vehiclesIn n (drop 10 bytes))
@@ -211,17 +211,17 @@ stepTests position numbers =
     ∷ []
 
 -- what is refused alters nothing
-abbrev pub unlessRefused : {T : Type 0} → Verdict → T → T → T
-unlessRefused (Refused why) before after = before
-unlessRefused Allowed before after = after
+abbrev pub ifAllowed : {T : Type 0} → Verdict → T → T → T
+ifAllowed (Refused why) before after = before
+ifAllowed Allowed before after = after
 
 -- The step on a position is the step on its section, written again: the number that it answers, the position after it, and the numbers after it.
 pub record StepsPosition (position entry numbers : List ℕ) (answer : ℕ) (positionAfter numbersAfter : List ℕ) : Type 0 where
   pub answered :
       answer
-      ≡ unlessRefused (firstOf (stepTests position numbers)) (refusalIn (firstOf (stepTests position numbers))) (refusalOf (stepOf (sectionAt position) entry .answer))
-  pub left : positionAfter ≡ unlessRefused (firstOf (stepTests position numbers)) position (positionOf (stepOf (sectionAt position) entry .section))
-  pub put : numbersAfter ≡ unlessRefused (firstOf (stepTests position numbers)) numbers (answerIn (stepOf (sectionAt position) entry .answer) numbers)
+      ≡ ifAllowed (firstOf (stepTests position numbers)) (refusalIn (firstOf (stepTests position numbers))) (refusalOf (stepOf (sectionAt position) entry .answer))
+  pub left : positionAfter ≡ ifAllowed (firstOf (stepTests position numbers)) position (positionOf (stepOf (sectionAt position) entry .section))
+  pub put : numbersAfter ≡ ifAllowed (firstOf (stepTests position numbers)) numbers (answerIn (stepOf (sectionAt position) entry .answer) numbers)
 
 -- ---- what is shown
 

@@ -2,7 +2,7 @@
 -- bytes, 4,688 in all; and what a store and a fetch make of it.
 use Prim.Native.Nat.{_*_, _+_, suc, zero, ℕ}
 use Rattle.working.specs.Entries.{every, pasted}
-use Rattle.working.specs.Positions.{byteAt, isPosition, refusalIn, sameBytes, unlessRefused}
+use Rattle.working.specs.Positions.{byteAt, ifAllowed, isPosition, refusalIn, sameBytes}
 use Rattle.working.specs.Refusals.{Test, firstOf}
 use Rattle.working.specs.Sections.{padWith}
 use Rattle.working.specs.declared.Refusal.the-variants.{BufferTooShort, IllMade, NoPosition, ShelfFull, UnknownName}
@@ -87,7 +87,7 @@ storedIn shelf name position = pasted shelf (293 * placeNamed shelf name) (title
 
 pub record Stores (shelf name position : List ℕ) (answer : ℕ) (after : List ℕ) : Type 0 where
   pub answered : answer ≡ refusalIn (firstOf (storeTests shelf name position))
-  pub left : after ≡ unlessRefused (firstOf (storeTests shelf name position)) shelf (storedIn shelf name position)
+  pub left : after ≡ ifAllowed (firstOf (storeTests shelf name position)) shelf (storedIn shelf name position)
 
 -- ---- fetch
 
@@ -105,4 +105,4 @@ fetchedFrom shelf name buffer = pasted buffer 0 (positionIn (drop (293 * placeNa
 
 pub record Fetches (shelf name buffer : List ℕ) (answer : ℕ) (after : List ℕ) : Type 0 where
   pub answered : answer ≡ refusalIn (firstOf (fetchTests shelf name buffer))
-  pub left : after ≡ unlessRefused (firstOf (fetchTests shelf name buffer)) buffer (fetchedFrom shelf name buffer)
+  pub left : after ≡ ifAllowed (firstOf (fetchTests shelf name buffer)) buffer (fetchedFrom shelf name buffer)

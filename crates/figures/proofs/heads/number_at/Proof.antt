@@ -26,7 +26,7 @@ returns-2 c =
     let start = ends .before .before .before in
     let head = start .args .head .now in
     let at = start .args .at in
-    omega (arith, c .number .ensures, past head (at + 1) (omega (arith, ends .if2 .taken)))
+    omega (arith, c .two .ensures, past head (at + 1) (omega (arith, ends .if2 .taken)))
 
 pub number-at-spec : {M : Type 1} → statement M
 number-at-spec =

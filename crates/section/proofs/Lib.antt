@@ -1,3 +1,3 @@
-pub mod Names
+pub mod Keys
 pub mod Passes
 pub mod Tallies

@@ -24,20 +24,20 @@ allBlank l = all isBlank l
 abbrev pub differsFrom : Vehicle → List Vehicle → Bool
 differsFrom v l = all (λ w. not (same v w)) l
 
--- ---- names: sender and form number in one number
+-- ---- keys: sender and form number in one number
 
-abbrev pub nameOf : Vehicle → ℕ
-nameOf v = v .sender * 65536 + v .form
+abbrev pub keyOf : Vehicle → ℕ
+keyOf v = v .sender * 65536 + v .form
 
--- no vehicle's name
-abbrev pub noName : ℕ
-noName = 16777216
+-- no vehicle's key
+abbrev pub noKey : ℕ
+noKey = 16777216
 
--- v, of figures that fit their bytes, has the name n
-pub record Named (v : Vehicle) (n : ℕ) : Type 0 where
-  pub is : n ≡ nameOf v
+-- v, of figures that fit their bytes, has the key n
+pub record Keyed (v : Vehicle) (n : ℕ) : Type 0 where
+  pub is : n ≡ keyOf v
   pub form : v .form < 65536
-  pub some : n < noName
+  pub some : n < noKey
 
 -- n is none of l
 abbrev pub lacks : ℕ → List ℕ → Bool

@@ -1,7 +1,7 @@
 // The test that a section is well made: one pass over the vehicles present, one over the unused places, the form numbers, then the desks.
 // The passes go from B's end to A's, as the definitions do, and pass no place by: a section is nearly always well made.
 ghost use Prim.Native.Nat.{_<_, _≤_};
-ghost use Rattle.section.specs.Made.{Named, Room, allBlank, allZero, counted, deskMadeWith, lacks, seen, surveyOf};
+ghost use Rattle.section.specs.Made.{Keyed, Room, allBlank, allZero, counted, deskMadeWith, lacks, seen, surveyOf};
 ghost use Rattle.working.specs.WellMade.{differ, isFreshDesk, notLater, oneIf, wellMade};
 ghost use lib.ListN.{drop, take};
 ghost use mathlib.Core.Path.{_≡_};
@@ -12,8 +12,8 @@ use working::Interval;
 use working::Section;
 use working::Vehicle;
 
-// No vehicle's name: above those of all senders and form numbers.
-const NO_NAME: u32 = 16777216;
+// No vehicle's key: above those of all senders and form numbers.
+const NO_KEY: u32 = 16777216;
 
 // A station's vehicles among those passed: how many, and whether their form numbers are 1 to the desk's last.
 pub(crate) struct Tally {
@@ -105,40 +105,40 @@ fn blank_from(places: [Vehicle; Section::PLACES], from: usize) -> bool
 }
 
 // A vehicle's sender and form number in one number.
-fn name_of(v: Vehicle) -> u32
-    ensures { λ r. ⌜ Named v r ⌝ }
+fn key_of(v: Vehicle) -> u32
+    ensures { λ r. ⌜ Keyed v r ⌝ }
 {
     (v.sender as u32) * 65536 + (v.form as u32)
 }
 
-// Whether no name is `name`.
-fn lacks(names: &[u32; Section::PLACES], name: u32) -> bool
-    ensures { λ r. ⌜ r ≡ lacks name (now (names .entry)) ⌝ }
+// Whether no key is `key`.
+fn lacks(keys: &[u32; Section::PLACES], key: u32) -> bool
+    ensures { λ r. ⌜ r ≡ lacks key (now (keys .entry)) ⌝ }
 {
-    let _ = &names[..];
+    let _ = &keys[..];
     let mut none = true;
     let mut i = Section::PLACES;
     while 0 < i {
         i -= 1;
-        none = !(names[i] == name) & none;
+        none = !(keys[i] == key) & none;
     }
     none
 }
 
-// Whether form numbers differ among one sender's vehicles: each is looked for among the names of those passed, and its own is put there.
+// Whether form numbers differ among one sender's vehicles: each is looked for among the keys of those passed, and its own is put there.
 // All places are looked at, since a bound that is a constant lets the compiler compare many at once.
 fn forms_differ(places: [Vehicle; Section::PLACES], len: usize) -> bool
     requires { ⌜ len ≤ 24 ⌝ }
     ensures { λ r. ⌜ r ≡ differ (take len places) ⌝ }
 {
-    let mut names = [NO_NAME; Section::PLACES];
+    let mut keys = [NO_KEY; Section::PLACES];
     let mut differ = true;
     let mut i = len;
     while 0 < i {
         i -= 1;
-        let name = name_of(places[i]);
-        differ = lacks(&names, name) & differ;
-        names[i] = name;
+        let key = key_of(places[i]);
+        differ = lacks(&keys, key) & differ;
+        keys[i] = key;
     }
     differ
 }

@@ -1,6 +1,6 @@
--- `made::forms_differ` meets its contract. The loop is a pass down: the vehicles from place `i` on differ among themselves, and their names are noted.
+-- `made::forms_differ` meets its contract. The loop is a pass down: the vehicles from place `i` on differ among themselves, and their keys are noted.
 -- Assumes nothing.
-use Rattle.section.proofs.Names.{Noted, none-noted, one-noted}
+use Rattle.section.proofs.Keys.{Noted, none-noted, one-noted}
 use Rattle.section.proofs.Passes.{Pass, begins, ends, goes-on, one-before}
 use Rattle.section.proofs.made.forms_differ.Statement.{statement}
 use Rattle.section.proofs.made.forms_differ.Tie as tie
@@ -14,10 +14,10 @@ use mathlib.Core.Path.{_∙_, _≡_, ap₂, refl}
 use native.Mathlib.Omega.{arith}
 
 abbrev Inv-loop : tie.InvT-loop
-Inv-loop len places names₀ differ₀ i₀ names so-far i = Pass differ places 0 len i so-far × Noted (drop i (take len places)) names i
+Inv-loop len places keys₀ differ₀ i₀ keys so-far i = Pass differ places 0 len i so-far × Noted (drop i (take len places)) keys i
 
 abbrev μ-loop : tie.MeasureT-loop
-μ-loop len places names₀ differ₀ i₀ names so-far i = i
+μ-loop len places keys₀ differ₀ i₀ keys so-far i = i
 
 loop-holds : tie.Need-loop-holds Inv-loop μ-loop
 loop-holds c =
@@ -28,11 +28,11 @@ loop-holds c =
 
 loop-again : tie.Need-loop-again Inv-loop μ-loop
 loop-again c =
-    let named = c .before .before in
-    let l = named .before .before .before .loop in
-    let a = named .before .before .before .before .args in
+    let keyed = c .before .before in
+    let l = keyed .before .before .before .loop in
+    let a = keyed .before .before .before .before .args in
     let long : length (a .t1) ≡ 24 = search needs in
-    let v = named .name-of .ensures in (
+    let v = keyed .key-of .ensures in (
       goes-on differ (a .t1) 0 (a .len) (omega arith) (l .inv .0) (omega arith) unused (ap₂ _&&_ (c .lacks .ensures ∙ l .inv .1 .noted _ _ v) (l .inv .0 .says)),
       rw (one-before (a .t1) (a .len) (l .i) unused (omega arith) (omega arith) (omega arith)) (one-noted _ _ (l .inv .1) (omega arith) (omega arith) v),
     )

@@ -1,6 +1,8 @@
 -- Document 01, "Reasons by who causes them": the numbers, and a list of tests that is scanned for the first that holds.
 use Prim.Native.Nat.{ℕ}
-use Rattle.working.specs.declared.Refusal.the-variants.{AlreadyInForce, BeforeClock, BufferTooShort, EndsInside, FormsUsed, GrantNotAllowed, GuestHere, HoldsLineClear, IllMade, IntervalRunning, MayNotEnter, MayNotMeet, NoGuest, NoLineClear, NoPosition, NotInForce, NotNearest, OpenerAway, OutOfRange, OwesLineClear, ShelfFull, TwelveSent, UnknownKind, UnknownName, VehiclePresent, WrongMap}
+use Rattle.working.specs.declared.Refusal.the-variants.{AlreadyInForce, BeforeClock, BufferTooShort, EndsInside, FormsUsed, GrantNotAllowed, GuestHere, HoldsLineClear}
+use Rattle.working.specs.declared.Refusal.the-variants.{IllMade, IntervalRunning, MayNotEnter, MayNotMeet, NoGuest, NoLineClear, NoPosition, NotInForce, NotNearest}
+use Rattle.working.specs.declared.Refusal.the-variants.{OpenerAway, OutOfRange, OwesLineClear, ShelfFull, TwelveSent, UnknownKind, UnknownName, VehiclePresent, WrongMap}
 use Rattle.working.specs.declared.Refusal.{Refusal}
 use Rattle.working.specs.declared.Verdict.the-variants.{Allowed, Refused}
 use Rattle.working.specs.declared.Verdict.{Verdict}

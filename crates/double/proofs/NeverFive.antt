@@ -10,8 +10,9 @@ use Rattle.double.specs.Steps.{Begin, Decoded, Depart, Event, Receive, R
 use Rattle.double.specs.WellMade.{wellMade}
 use Rattle.double.specs.declared.Section.{Section}
 use Rattle.double.specs.declared.Stepped.{Stepped}
-use Rattle.working.proofs.Corollaries.{Fine, FineSaid, fine-first, fine-said, fineVerdict, noFive}
+use Rattle.working.proofs.Corollaries.{Fine, FineSaid, fine-said}
 use Rattle.working.proofs.Lists.{split-run}
+use Rattle.working.proofs.Tests.{Other, allOther, first-other}
 use Rattle.working.specs.Events.{Bad, Says}
 use Rattle.working.specs.Refusals.{firstOf}
 use Rattle.working.specs.Runs.{Done, next}
@@ -22,10 +23,10 @@ use mathlib.Core.Bool.{true}
 use mathlib.Core.List.{List, _++_, _∷_}
 use mathlib.Core.Path.{_≡_, ap, refl}
 
-fine-says : (s : Section) (e : Event) → noFive (testsOf s e) ≡ true → Fine (effectOf s e .answer) → Fine (onDecoded s (Says e) .answer)
-fine-says s e none fine = by (firstOf (testsOf s e)) (fine-first (testsOf s e) none)
+fine-says : (s : Section) (e : Event) → allOther 5 (testsOf s e) ≡ true → Fine (effectOf s e .answer) → Fine (onDecoded s (Says e) .answer)
+fine-says s e none fine = by (firstOf (testsOf s e)) (first-other 5 (testsOf s e) none)
   where
-    by : (v : Verdict) → fineVerdict v → Fine (settled s (Says e) v (effectOf s e) .answer)
+    by : (v : Verdict) → Other 5 v → Fine (settled s (Says e) v (effectOf s e) .answer)
     by (Refused why) h = h
     by Allowed h = fine
 

@@ -2,13 +2,13 @@
 -- Assumes nothing.
 use Prim.Native.Nat.{_<_, _≤_, ℕ}
 use Rattle.working.specs.Entries.{every}
-use Rattle.working.specs.Refusals.{Test, firstOf, orElse}
+use Rattle.working.specs.Refusals.{Test, firstOf, numberOf, orElse}
 use Rattle.working.specs.declared.Refusal.{Refusal}
-use Rattle.working.specs.declared.Verdict.the-variants.{Allowed}
+use Rattle.working.specs.declared.Verdict.the-variants.{Allowed, Refused}
 use Rattle.working.specs.declared.Verdict.{Verdict}
 use borrow.Author.Tests.{eqb-false, le-ltb, ltb-false}
 use lib.Dec.{eqb, ltb}
-use mathlib.Core.Bool.{Bool, _&&_, _||_, cond, false, false≢true, true, true≢false}
+use mathlib.Core.Bool.{Bool, _&&_, _||_, cond, false, false≢true, not, true, true≢false}
 use mathlib.Core.List.{List, [], _++_, _∷_}
 use mathlib.Core.Path.{_∙_, _≡_, refl, sym}
 use native.Mathlib.Omega.{arith}
@@ -94,3 +94,25 @@ none-holds (t ∷ ts) e = let p = test-fails (t .0) (t .1) (firstOf ts) e in (p 
 pub none-of-both : (ts us : List Test) → NoneHolds (ts ++ us) → NoneHolds ts × NoneHolds us
 none-of-both [] us n = (tt, n)
 none-of-both (t ∷ ts) us n = let p = none-of-both ts us (n .1) in ((n .0, p .0), p .1)
+
+-- ---- a list of refusals of which none has this number
+
+abbrev pub isOther : ℕ → Refusal → Bool
+isOther n why = not (eqb (numberOf why) n)
+
+abbrev pub Other : ℕ → Verdict → Type 0
+Other n (Refused why) = isOther n why ≡ true
+Other n Allowed = Unit {0}
+
+-- computed on each list as it stands
+abbrev pub allOther : ℕ → List Test → Bool
+allOther n [] = true
+allOther n (t ∷ ts) = isOther n (t .1) && allOther n ts
+
+pub first-other : (n : ℕ) (ts : List Test) → allOther n ts ≡ true → Other n (firstOf ts)
+first-other n [] h = tt
+first-other n (t ∷ ts) h = let p = both (isOther n (t .1)) (allOther n ts) h in by (t .0) (p .0) (first-other n ts (p .1))
+  where
+    by : (b : Bool) → isOther n (t .1) ≡ true → Other n (firstOf ts) → Other n (orElse b (t .1) (firstOf ts))
+    by true here later = here
+    by false here later = later

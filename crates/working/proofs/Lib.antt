@@ -16,6 +16,7 @@ pub mod Fields
 pub mod FirstEntry
 pub mod Found
 pub mod GivenUp
+pub mod Guests
 pub mod Invariant
 pub mod Judged
 pub mod Kept

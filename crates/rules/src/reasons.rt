@@ -90,18 +90,12 @@ pub fn open_verdict(d: Desk) -> Verdict
     Verdict::Allowed
 }
 
+// RETURN. Line clears that are held are no reason: no list of steps from fresh has them beside a guest.
 pub fn return_verdict(d: Desk, granted: u8) -> Verdict
     ensures { λ r. ⌜ r ≡ firstOf (returnTests d granted) ⌝ }
 {
     let guest = d.guest;
-    let Clears {
-        asked,
-        holds,
-        owes: _,
-    } = d.clears;
-    if 0 < holds {
-        return Verdict::Refused(Refusal::HoldsLineClear);
-    }
+    let asked = d.clears.asked;
     if guest == 0 {
         return Verdict::Refused(Refusal::NoGuest);
     }

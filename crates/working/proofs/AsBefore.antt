@@ -1,8 +1,9 @@
 -- T-02: "Lists from fresh once accepted throughout are answered as before." Of every list of steps from fresh of which document 01's own step refuses none, today's step
 -- gives each the same section and the same answer, but for the second figure of a follower's speed, and nothing waits at the end: `answered-as-before`.
--- The two steps differ in refusal 16 on a TRAIN, in what a receipt makes of holds, in kind 9, and in a follower's speed. In such a list a station that holds a line clear
--- owes none, so that a TRAIN which document 01 lets go is let go; whoever receives a grant owes nothing after it, so that it is held at once (`ReplyLast`); there is no entry
--- of kind 9, since document 01 refuses each with 2 (`KindNine`); and a follower's speed is document 01's with 10 beside it, view by view (`train-speed`).
+-- The two steps differ in refusal 16 on a TRAIN, in what a receipt makes of holds, in kind 9, in a follower's speed, and in refusal 11 on a RETURN. In such a list a station
+-- that holds a line clear owes none, so that a TRAIN which document 01 lets go is let go; whoever receives a grant owes nothing after it, so that it is held at once
+-- (`ReplyLast`); there is no entry of kind 9, since document 01 refuses each with 2 (`KindNine`); a follower's speed is document 01's with 10 beside it, view by view
+-- (`train-speed`); and a RETURN which document 01 lets go has passed every test that is left.
 -- Assumes nothing.
 use Prim.Native.Nat.{_<_, ℕ}
 use Rattle.working.proofs.Changes.{Change, arrival, change, departure, emptying, meeting, named-there, refusal, step-is, well-at}
@@ -20,22 +21,21 @@ use Rattle.working.proofs.Tests.{NoneHolds, both, no-test, none-holds, 
 use Rattle.working.proofs.Vehicles.{From, NotFrom, every-end, nearest, not-other, number-same, ordered-far}
 use Rattle.working.specs.Acts as acts
 use Rattle.working.specs.Acts.{Act}
-use Rattle.working.specs.Document01.{AnsweredAsBefore, arriveDesk01, atSpeed, decode01, entered01, followersTwo, holdsAfter01, isFollower, isKindNine}
-use Rattle.working.specs.Document01.{onDecoded01, planOf01, stepOf01, testsOf01, trainSpeed01, trainTests01, withElsewhere, withSecondFigure}
+use Rattle.working.specs.Document01.{AnsweredAsBefore, altered, arriveDesk01, atSpeed, decode01, enteredBy, followersTwo, holdsAfter01, isFollower, isKindNine}
+use Rattle.working.specs.Document01.{onDecodedBy, planOf01, returnTests01, stepOf01, testsBy, trainSpeed01, trainTests01, withElsewhere, withSecondFigure}
 use Rattle.working.specs.Effects.{Arrive, Depart, Plan, Refuse, arriveDesk, effectOf, grantedIn, otherDesk, ownDesk, replied, trainSpeed}
 use Rattle.working.specs.Events.{At, Bad, Begin, Decoded, Meet, Resume, Says, decode}
-use Rattle.working.specs.Reasons.{departTests, mayEnter, testsOf, trainTests}
+use Rattle.working.specs.Reasons.{departTests, mayEnter, returnTests, testsOf, trainTests}
 use Rattle.working.specs.Refusals.{Test, firstOf}
 use Rattle.working.specs.Runs.{Done, Run, acceptsBy, endBy, next, resultsBy, resultsOf, stop}
 use Rattle.working.specs.Sections.{deskOf, freshDesk, insertAt, nearestAt, noneRefused, otherAt, vehiclesOf, withDesk, withHolds, withVehicles}
 use Rattle.working.specs.Speeds.{follows}
-use Rattle.working.specs.Steps.{doneBy, entered, ifMade, metAt, onDecoded, planOf, stepOf, unlessRefused}
+use Rattle.working.specs.Steps.{doneBy, entered, metAt, onDecoded, planOf, stepOf, unlessRefused}
 use Rattle.working.specs.Turns.{isAccepted}
 use Rattle.working.specs.WellMade.{isOpener, wellMade}
 use Rattle.working.specs.declared.Desk.{Desk}
 use Rattle.working.specs.declared.Movement.the-variants.{LastTrain, Open, Return, Through, Train}
 use Rattle.working.specs.declared.Movement.{Movement}
-use Rattle.working.specs.declared.Refusal.the-variants.{UnknownKind}
 use Rattle.working.specs.declared.Section.{Section}
 use Rattle.working.specs.declared.Speed.{Speed}
 use Rattle.working.specs.declared.Station.the-variants.{A, B}
@@ -182,10 +182,13 @@ record ActAs (act : Act) (x : Station) (force : Bool) (d : Desk) (time : ℕ) (v
   allowed : Allowed01 act d
 
 act-as : (act : Act) (x : Station) (force : Bool) (d o : Desk) (time : ℕ) (l : List Vehicle) → Well x d o l → Between x d o l → RepliesLast x d o l
-    → firstOf (testsOf01 act x force d time (nearestAt x l)) ≡ Allowed → ActAs act x force d time (nearestAt x l)
+    → firstOf (testsBy returnTests01 trainTests01 act x force d time (nearestAt x l)) ≡ Allowed → ActAs act x force d time (nearestAt x l)
 act-as (acts.Open view class asked) x force d o time l w h k passes = record { plan = unfigured _; allowed = tt }
 act-as (acts.Through view) x force d o time l w h k passes = record { plan = unfigured _; allowed = tt }
-act-as (acts.Return asked granted) x force d o time l w h k passes = record { plan = unfigured _; allowed = tt }
+act-as (acts.Return asked granted) x force d o time l w h k passes =
+    let own = depart-passes force d time (returnTests01 d granted) (none-holds (departTests force d time (returnTests01 d granted)) passes) .own in
+    let today : firstOf (departTests force d time (returnTests d granted)) ≡ Allowed = rw (own .0) at passes in
+    record { plan = rw (passes, today) (unfigured _); allowed = tt }
 act-as (acts.Train endorsed view asked granted) x force d o time l w h k passes =
     let own = depart-passes force d time (trainTests01 d granted) (none-holds (departTests force d time (trainTests01 d granted)) passes) .own in
     let leaves-some = or-right (ltb (d .clears .asked) granted) (ltb 0 granted && ltb 1 (d .clears .holds)) (own .1 .0) in
@@ -216,11 +219,8 @@ passes01 : (s : Section) (e : Decoded) (x : Station) (v : Verdict) (p : Plan) �
 passes01 s e x (Refused why) p accepted = absurd (false≢true accepted)
 passes01 s e x Allowed p accepted = refl
 
--- a step's result with a second figure beside its speed, where that is a follower's
-abbrev withFigure : Bool → Stepped → Stepped
-withFigure follower r = record { answer = cond follower (withSecondFigure (r .answer)) (r .answer); section = r .section }
-
-done-figured : (s : Section) (e : Decoded) (x : Station) (follower : Bool) (p : Plan) → doneBy s e x (figured follower p) ≡ withFigure follower (doneBy s e x p)
+-- so is what it comes to
+done-figured : (s : Section) (e : Decoded) (x : Station) (follower : Bool) (p : Plan) → doneBy s e x (figured follower p) ≡ altered follower withSecondFigure (doneBy s e x p)
 done-figured s e x true (Refuse why) = refl
 done-figured s e x true (Depart p) = refl
 done-figured s e x true (Arrive d) = refl
@@ -231,15 +231,15 @@ done-figured s e x false (Arrive d) = refl
 entered-as : (s : Section) (x : Station) (time : ℕ) (act : Act)
     → let v = nearestAt x (vehiclesOf s) in
     planOf act x (s .force) (deskOf s x) time v ≡ figured (follows act (deskOf s x)) (planOf01 act x (s .force) (deskOf s x) time v)
-    → entered s (At x time act) ≡ withFigure (follows act (deskOf s x)) (entered01 s (At x time act))
+    → entered s (At x time act) ≡ altered (follows act (deskOf s x)) withSecondFigure (enteredBy planOf01 s (At x time act))
 unfolding entered
 entered-as s x time act plan =
     let e = Says (At x time act) in
     let before = planOf01 act x (s .force) (deskOf s x) time (nearestAt x (vehiclesOf s)) in
     ap (doneBy s e x) plan ∙ done-figured s e x (follows act (deskOf s x)) before
 
-decoded-as : (s : Section) (e : Decoded) → Good s → RepliesLastIn s → isAccepted (onDecoded01 s e .answer) ≡ true
-    → (onDecoded s e ≡ withFigure (isFollower s e) (onDecoded01 s e)) × Allows s e
+decoded-as : (s : Section) (e : Decoded) → Good s → RepliesLastIn s → isAccepted (onDecodedBy planOf01 s e .answer) ≡ true
+    → (onDecoded s e ≡ altered (isFollower s e) withSecondFigure (onDecodedBy planOf01 s e)) × Allows s e
 decoded-as s (Bad why) g k accepted = absurd (false≢true accepted)
 decoded-as s (Says Begin) g k accepted = (refl, tt)
 decoded-as s (Says (At x time act)) g k accepted =
@@ -275,7 +275,7 @@ last-change s e r g k allows (meeting x y n i f w) =
     let present = vehicles-with 24 (metAt x i (vehiclesOf s)) (w .fits) in
     record { own = rw (present, moves-met A x i (vehiclesOf s)) (k .own); far = rw (present, moves-met B x i (vehiclesOf s)) (k .far) }
 
-step-01-is : (s : Section) (bytes : List ℕ) → wellMade s ≡ true → isKindNine bytes ≡ false → stepOf01 s bytes ≡ onDecoded01 s (decode bytes)
+step-01-is : (s : Section) (bytes : List ℕ) → wellMade s ≡ true → isKindNine bytes ≡ false → stepOf01 s bytes ≡ onDecodedBy planOf01 s (decode bytes)
 unfolding decode01 stepOf01
 step-01-is s bytes made other = rw (made, other)
 
@@ -285,7 +285,7 @@ step-as s bytes g k accepted =
     let made = g .sound .well in
     let is = step-01-is s bytes made (no-kind-nine s bytes accepted) in
     let (same, allows) = decoded-as s (decode bytes) g k (rw is at accepted) in
-    (step-is s bytes made ∙ same ∙ ap (withFigure (isFollower s (decode bytes))) (sym is), last-change s (decode bytes) (stepOf s bytes) g k allows (change s bytes (g .sound)))
+    (step-is s bytes made ∙ same ∙ ap (altered (isFollower s (decode bytes)) withSecondFigure) (sym is), last-change s (decode bytes) (stepOf s bytes) g k allows (change s bytes (g .sound)))
 
 -- ---- the list
 

@@ -15,7 +15,7 @@
 -- Assumes nothing.
 use Prim.Native.Nat.{_+_, _-_, _<_, ℕ}
 use Rattle.working.proofs.Every.{Every, every-before, every-map}
-use Rattle.working.proofs.Reasons.{OpenPasses, ReturnPasses, TrainPasses}
+use Rattle.working.proofs.Reasons.{OpenPasses, TrainPasses}
 use Rattle.working.proofs.Tests.{clash, no-test, or-left, or-right, some-test, zero-test, zero-unless}
 use Rattle.working.specs.Demand3.{givenUpIn}
 use Rattle.working.specs.Departures.{isTrain, kindIn}
@@ -346,16 +346,16 @@ kept-opener d o t out m mine theirs h p op is-out =
 
 -- a RETURN
 pub kept-return : (d o : Desk) (t a g : ℕ) (mine theirs : List Movement) → Halves d o mine theirs
-    → ReturnPasses d → Halves (returnDesk d t g) o (Return a g ∷ mine) theirs
-kept-return d o t a g mine theirs h p =
-    let q = h .own .guests (p .guest) in
+    → 0 < d .guest → Halves (returnDesk d t g) o (Return a g ∷ mine) theirs
+kept-return d o t a g mine theirs h guest =
+    let q = h .own .guests guest in
     let alone : Halves d o [] [] = rw (q .none, q .none-far) at h in
     let owes = or-else g (d .clears .owes) (q .owes) in
     rw (q .none, q .none-far)
     (record {
-      own = quiet refl (p .holds) (q .waiting) (omega (arith, alone .own .sum)) (alone .own .outs) (tt, tt) (no-far refl);
+      own = quiet refl (q .holds) (q .waiting) (omega (arith, alone .own .sum)) (alone .own .outs) (tt, tt) (no-far refl);
       far = quiet (q .guest) (omega (arith, alone .own .sum)) (omega (arith, alone .own .sum)) (omega (arith, alone .far .sum, q .holds, q .waiting))
-          (alone .far .outs ∙ rw (lt-ltb 0 (d .guest) (p .guest))) tt (openers tt);
+          (alone .far .outs ∙ rw (lt-ltb 0 (d .guest) guest)) tt (openers tt);
     })
 
 -- what a TRAIN, which is m in the section, leaves of the line clears held, and what is owed for it

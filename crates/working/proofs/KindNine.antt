@@ -11,7 +11,7 @@ use Rattle.working.specs.Acts as acts
 use Rattle.working.specs.Acts.{Act}
 use Rattle.working.specs.Demand3.{vehicleAt}
 use Rattle.working.specs.Departures.{Departure, Kind, LAST-TRAIN, OPEN, RETURN, THROUGH, TRAIN, departureBy, departureOf, departureWith, ifOf, kindIn, kindOf, laterOr}
-use Rattle.working.specs.Document01.{decode01, isKindNine, onDecoded01, stepOf01}
+use Rattle.working.specs.Document01.{decode01, isKindNine, onDecodedBy, planOf01, stepOf01}
 use Rattle.working.specs.Entries.{entryIn, judge, lengthOf, mapIn, readAs, readAt}
 use Rattle.working.specs.Events.{At, Bad, Begin, Decoded, Event, Meet, Resume, Says, decode, decodedAs, eventOf, stationOf, viewOf}
 use Rattle.working.specs.Runs.{Done, Run, acceptsBy}
@@ -24,7 +24,6 @@ use Rattle.working.specs.declared.Answer.{Answer}
 use Rattle.working.specs.declared.Entry.{Entry}
 use Rattle.working.specs.declared.Refusal.the-variants.{UnknownKind}
 use Rattle.working.specs.declared.Section.{Section}
-use Rattle.working.specs.declared.Station.{Station}
 use Rattle.working.specs.declared.Table.the-variants.{SingleLine}
 use Rattle.working.specs.declared.Vehicle.{Vehicle}
 use Rattle.working.specs.declared.Verdict.the-variants.{Allowed, Refused}
@@ -101,7 +100,7 @@ pub no-kind-nine : (s : Section) (bytes : List ℕ) → isAccepted (stepOf01 s b
 unfolding decode01 stepOf01
 no-kind-nine s bytes = by (wellMade s) (isKindNine bytes)
   where
-    by : (made ninth : Bool) → isAccepted (ifMade made s (onDecoded01 s (cond ninth (Bad UnknownKind) (decode bytes))) .answer) ≡ true → ninth ≡ false
+    by : (made ninth : Bool) → isAccepted (ifMade made s (onDecodedBy planOf01 s (cond ninth (Bad UnknownKind) (decode bytes))) .answer) ≡ true → ninth ≡ false
     by true true accepted = absurd (false≢true accepted)
     by false true accepted = absurd (false≢true accepted)
     by made false accepted = refl

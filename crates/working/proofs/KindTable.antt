@@ -1,4 +1,4 @@
--- What each kind is refused for, in rising order, and what it does to every figure of the section, the sentences of document 01, T-02 and T-03 row by row for either station.
+-- What each kind is refused for, in rising order, and what it does to every figure of the section, the sentences of document 01, T-02, T-03 and T-08 row by row for either station.
 -- The sections are written out: the desk that decides has a figure at each place that the kind must keep, and the other desk is full of figures that no entry of this
 -- station may alter. A row has the section found, the bytes, the answer, and the section left, compared in every figure. Every section found is well made, or the answer
 -- would be 5.
@@ -8,6 +8,7 @@ use Rattle.working.proofs.Computing.{step-computes}
 use Rattle.working.proofs.Edges.{Edge, answersBy, answersTo, expectedOf, leavingAnotherBy, refused, row, rowsLeavingAnother}
 use Rattle.working.proofs.Literals.{begin, counts, figures, meet, opensAs, plain, receive, resume, vehicle, withClock, withOwes, working}
 use Rattle.working.specs.Document01.{decode01, stepOf01}
+use Rattle.working.specs.Guests.{stepWith11}
 use Rattle.working.specs.Sections.{fresh, freshDesk, numberAt, otherAt, padTo, withWaiting}
 use Rattle.working.specs.declared.Answer.the-variants.{Accepted, Refused}
 use Rattle.working.specs.declared.Desk.{Desk}
@@ -86,17 +87,17 @@ openRefused x bytes =
     ∷ refused (Of x) (seenFrom x [] (figures 100 9998 11 (Since 71) false 0 8 0 0)) bytes IntervalRunning
     ∷ []
 
--- RETURN: 9, 11, 14, 16, 17, 18, 19; out set and owes above 0 are no reason
+-- RETURN: 9, 14, 16, 17, 18, 19; out set, owes above 0 and, T-08, holds above 0 are no reason
 abbrev returnRefused : Station → List Edge
 returnRefused x =
     refused (Of x) fresh (returningWith x 1 3) NotInForce
-    ∷ refused (Of x) (seenFrom x [] (figures 101 9999 12 (Since 101) true 0 2 1 8)) (returningWith x 1 3) BeforeClock
-    ∷ refused (Of x) (seenFrom x [] (figures 100 9999 12 (Since 71) true 0 2 1 8)) (returningWith x 1 3) HoldsLineClear
+    ∷ refused (Of x) (seenFrom x [] (figures 101 9999 12 (Since 101) true 0 2 8 8)) (returningWith x 1 3) BeforeClock
+    ∷ refused (Of x) (seenFrom x [] (figures 100 9999 12 (Since 71) true 0 2 8 8)) (returningWith x 1 3) NoGuest
     ∷ refused (Of x) (seenFrom x [] (figures 100 9999 12 (Since 71) true 0 2 0 8)) (returningWith x 1 3) NoGuest
-    ∷ refused (Of x) (seenFrom x [] (figures 100 9999 12 (Since 71) true 1 2 0 8)) (returningWith x 1 3) GrantNotAllowed
-    ∷ refused (Of x) (seenFrom x [] (figures 100 9999 12 (Since 71) true 1 3 0 8)) (returningWith x 1 3) TwelveSent
-    ∷ refused (Of x) (seenFrom x [] (figures 100 9999 11 (Since 71) true 1 3 0 8)) (returningWith x 1 3) FormsUsed
-    ∷ refused (Of x) (seenFrom x [] (figures 100 9998 11 (Since 71) true 1 3 0 8)) (returningWith x 1 3) IntervalRunning
+    ∷ refused (Of x) (seenFrom x [] (figures 100 9999 12 (Since 71) true 1 2 8 8)) (returningWith x 1 3) GrantNotAllowed
+    ∷ refused (Of x) (seenFrom x [] (figures 100 9999 12 (Since 71) true 1 3 8 8)) (returningWith x 1 3) TwelveSent
+    ∷ refused (Of x) (seenFrom x [] (figures 100 9999 11 (Since 71) true 1 3 8 8)) (returningWith x 1 3) FormsUsed
+    ∷ refused (Of x) (seenFrom x [] (figures 100 9998 11 (Since 71) true 1 3 8 8)) (returningWith x 1 3) IntervalRunning
     ∷ []
 
 -- TRAIN, endorsed as the last or not (kind 5 or 9): 9, 15, 16 for a grant above asked, 16 for a grant while owes is above 0, 17, 18, 19; out set, a guest, and a grant that leaves holds above 0 are no reason
@@ -167,6 +168,9 @@ departures x =
     -- RETURN: guest and asked cleared; granted above 0 becomes owes, also while S owes, else owes stays; out stays; booked, with 2 if asked and 4 if granted
     ∷ leaves x (figures 90 7 2 (Since 70) true 4 6 0 7) (returning x) (way x + 160) Booked (Return 0 0) 4 (figures 100 8 3 (Since 100) true 0 0 0 7)
     ∷ leaves x (figures 90 7 2 Stopped true 5 6 0 7) (returningWith x 5 1) (way x + 166) Booked (Return 5 1) 5 (figures 100 8 3 (Since 100) true 0 0 0 1)
+    -- T-08: holds above 0, where no list from fresh has a guest, is no reason, and stays
+    ∷ leaves x (figures 90 7 2 (Since 70) true 4 6 8 7) (returning x) (way x + 160) Booked (Return 0 0) 4 (figures 100 8 3 (Since 100) true 0 0 8 7)
+    ∷ leaves x (figures 90 7 2 Stopped true 5 6 1 7) (returningWith x 5 1) (way x + 166) Booked (Return 5 1) 5 (figures 100 8 3 (Since 100) true 0 0 1 1)
     -- TRAIN: booked if sent was 0, else a follower, T-07: 25/10 in view 1 and 10/10 otherwise; without a grant asked and owes stay
     ∷ leaves x (figures 90 7 0 (Since 70) true 3 6 3 7) (running 5 x 1) (way x + 160) Booked (Train 0 0) 0 (figures 100 8 1 (Since 100) true 3 6 2 7)
     ∷ leaves x (figures 90 7 0 Stopped true 3 6 3 7) (running 5 x 3) (way x + 160) Booked (Train 0 0) 0 (figures 100 8 1 (Since 100) true 3 6 2 7)
@@ -357,3 +361,24 @@ before07 x =
 pub before-t07 : let rows = before07 A ++ before07 B in (answersBy stepOf01 rows ≡ expectedOf rows) × (leavingAnotherBy stepOf01 1 rows ≡ [])
 unfolding decode01 step-computes stepOf01
 before-t07 = (refl, refl)
+
+-- ---- and where T-08 altered it: a RETURN read 11 where a line clear was held, behind 9 and before 14, also with a guest; so by the step before T-08
+
+abbrev before08 : Station → List Edge
+before08 x =
+    refused (Of x) fresh (returningWith x 1 3) NotInForce
+    ∷ refused (Of x) (seenFrom x [] (figures 101 9999 12 (Since 101) true 0 2 1 8)) (returningWith x 1 3) BeforeClock
+    ∷ refused (Of x) (seenFrom x [] (figures 100 9999 12 (Since 71) true 0 2 1 8)) (returningWith x 1 3) HoldsLineClear
+    ∷ refused (Of x) (seenFrom x [] (figures 100 9998 11 Stopped true 1 3 1 8)) (returningWith x 1 3) HoldsLineClear
+    ∷ refused (Of x) (seenFrom x [] (figures 100 9999 12 (Since 71) true 0 2 0 8)) (returningWith x 1 3) NoGuest
+    ∷ refused (Of x) (seenFrom x [] (figures 100 9999 12 (Since 71) true 1 2 0 8)) (returningWith x 1 3) GrantNotAllowed
+    ∷ refused (Of x) (seenFrom x [] (figures 100 9999 12 (Since 71) true 1 3 0 8)) (returningWith x 1 3) TwelveSent
+    ∷ refused (Of x) (seenFrom x [] (figures 100 9999 11 (Since 71) true 1 3 0 8)) (returningWith x 1 3) FormsUsed
+    ∷ refused (Of x) (seenFrom x [] (figures 100 9998 11 (Since 71) true 1 3 0 8)) (returningWith x 1 3) IntervalRunning
+    ∷ []
+
+pub before-t08 : let rows = before08 A ++ before08 B in
+    (answersBy stepOf01 rows ≡ expectedOf rows) × (leavingAnotherBy stepOf01 1 rows ≡ [])
+    × (answersBy stepWith11 rows ≡ expectedOf rows) × (leavingAnotherBy stepWith11 1 rows ≡ [])
+unfolding decode01 step-computes stepOf01 stepWith11
+before-t08 = (refl, refl, refl, refl)

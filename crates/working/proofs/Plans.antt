@@ -146,13 +146,13 @@ fate (acts.Through w) x force d t v made b = opener-fate (acts.Through w) x forc
 fate (acts.Return asked granted) x force d t v few b =
     departs-by (acts.Return asked granted) x force d t v (returnTests d granted) _ _ _ (Return asked granted) (d .guest) _
     (λ n.
-    let p = return-passes d granted n in
+    let guest = return-passes d granted n in
     let owes : d .clears .owes ≤ 8 = omega arith in
     record {
       bounds = omega (arith, either-most (ltb 0 granted) (few .granted) owes);
-      made = omega (arith, p .guest);
-      keeps = λ o mine theirs h. kept-return d o t asked granted mine theirs h p;
-      replies = λ o mine theirs h allowed. replies-return d o t asked granted mine theirs h p;
+      made = omega (arith, guest);
+      keeps = λ o mine theirs h. kept-return d o t asked granted mine theirs h guest;
+      replies = λ o mine theirs h allowed. replies-return d o t asked granted mine theirs h guest;
       kind = refl;
       slowly = λ q. absurd (false≢true q);
     })

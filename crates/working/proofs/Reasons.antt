@@ -10,7 +10,7 @@ use Rattle.working.specs.declared.Desk.{Desk}
 use Rattle.working.specs.declared.Interval.{Interval}
 use Rattle.working.specs.declared.Station.{Station}
 use Rattle.working.specs.declared.Vehicle.{Vehicle}
-use borrow.Author.Tests.{leb-false, lt-ltb, ltb-false, not-false}
+use borrow.Author.Tests.{leb-false, lt-ltb, not-false}
 use lib.Dec.{ltb}
 use lib.ListN.{getD}
 use mathlib.Core.Bool.{Bool, _&&_, false, true}
@@ -30,12 +30,8 @@ pub record OpenPasses (d : Desk) : Type 0 where
 pub open-passes : (d : Desk) → NoneHolds (openTests d) → OpenPasses d
 open-passes d n = search no-test
 
-pub record ReturnPasses (d : Desk) : Type 0 where
-  pub holds : d .clears .holds ≡ 0
-  pub guest : 0 < d .guest
-
-pub return-passes : (d : Desk) (granted : ℕ) → NoneHolds (returnTests d granted) → ReturnPasses d
-return-passes d granted n = omega (arith, ltb-false, some-test)
+pub return-passes : (d : Desk) (granted : ℕ) → NoneHolds (returnTests d granted) → 0 < d .guest
+return-passes d granted n = some-test (d .guest) (n .0)
 
 pub record TrainPasses (d : Desk) (granted : ℕ) : Type 0 where
   pub holds : 0 < d .clears .holds

@@ -3,7 +3,7 @@
 -- Assumes nothing.
 use Prim.Native.Nat.{_-_, _<_, _≤_, ℕ}
 use Rattle.working.proofs.Invariant.{Halves, all-owed, brings, far-holds, far-sum, granted, or-else, owedOver, own-sum, released, weigh-snoc}
-use Rattle.working.proofs.Reasons.{OpenPasses, ReturnPasses, TrainPasses}
+use Rattle.working.proofs.Reasons.{OpenPasses, TrainPasses}
 use Rattle.working.proofs.Tests.{zero-unless}
 use Rattle.working.specs.Acts as acts
 use Rattle.working.specs.Acts.{Act}
@@ -43,10 +43,11 @@ pub replies-opener : (d o : Desk) (t : ℕ) (out : Bool) (m : Movement) (mine th
     → ReplyLast (withOut out (departed d t)) (m ∷ mine)
 replies-opener d o t out m mine theirs h p k = record { waiting = k .waiting; owes = k .owes; near = omega (arith, h .own .sum, p .owes) }
 
-pub replies-return : (d o : Desk) (t a g : ℕ) (mine theirs : List Movement) → Halves d o mine theirs → ReturnPasses d → ReplyLast d mine
+pub replies-return : (d o : Desk) (t a g : ℕ) (mine theirs : List Movement) → Halves d o mine theirs → 0 < d .guest → ReplyLast d mine
     → ReplyLast (returnDesk d t g) (Return a g ∷ mine)
-replies-return d o t a g mine theirs h p k =
-    record { waiting = k .waiting; owes = λ some. absurd (omega (arith, p .holds)); near = ap granted (h .own .guests (p .guest) .none) }
+replies-return d o t a g mine theirs h guest k =
+    let q = h .own .guests guest in
+    record { waiting = k .waiting; owes = λ some. absurd (omega (arith, q .holds)); near = ap granted (q .none) }
 
 pub replies-train : (d o : Desk) (endorsed : Bool) (t g : ℕ) (m : Movement) (mine theirs : List Movement) → Halves d o mine theirs → TrainPasses d g
     → (0 < g → d .clears .holds ≤ 1) → ReplyLast d mine → ReplyLast (trainDesk endorsed d t g) (m ∷ mine)

@@ -1,8 +1,8 @@
 -- Document 01's own step, as it stood before the requests that alter what a step answers, with the counts of T-01. Today's step is in Steps; this one stays for the
 -- sentence of T-02, "Lists from fresh once accepted throughout are answered as before", which is stated at the end. Only what the requests altered is written out: T-02
--- refusal 16 on a TRAIN, and what a receipt makes of holds; T-03 kind 9, which was refusal 2; T-07 a follower's speed, which had one figure. What a later request alters is
--- first written out here as it was. The sections are today's. The step makes nothing wait, moves nothing that waits and sends no vehicle of kind 9, so that from fresh there
--- is none of these; and where there is none `wellMade` asks what document 01 asks.
+-- refusal 16 on a TRAIN, and what a receipt makes of holds; T-03 kind 9, which was refusal 2; T-07 a follower's speed, which had one figure; T-08 refusal 11, which a RETURN
+-- could read. What a later request alters is first written out here as it was. The sections are today's. The step makes nothing wait, moves nothing that waits and sends no
+-- vehicle of kind 9, so that from fresh there is none of these; and where there is none `wellMade` asks what document 01 asks.
 use Prim.Native.Nat.{_<_, ℕ}
 use Rattle.working.specs.Acts as acts
 use Rattle.working.specs.Acts.{Act}
@@ -23,7 +23,7 @@ use Rattle.working.specs.declared.Answer.{Answer}
 use Rattle.working.specs.declared.Desk.{Desk}
 use Rattle.working.specs.declared.Movement.the-variants.{LastTrain, Open, Return, Through, Train}
 use Rattle.working.specs.declared.Movement.{Movement}
-use Rattle.working.specs.declared.Refusal.the-variants.{GrantNotAllowed, NoLineClear, UnknownKind}
+use Rattle.working.specs.declared.Refusal.the-variants.{GrantNotAllowed, HoldsLineClear, NoGuest, NoLineClear, UnknownKind}
 use Rattle.working.specs.declared.Section.{Section}
 use Rattle.working.specs.declared.Speed.the-variants.{Booked, Both, Kmh, NoSpeed, Walking}
 use Rattle.working.specs.declared.Speed.{Speed}
@@ -44,13 +44,6 @@ trainTests01 d granted =
     (eqb (d .clears .holds) 0, NoLineClear)  -- 15
     ∷ (ltb (d .clears .asked) granted || (ltb 0 granted && ltb 1 (d .clears .holds)), GrantNotAllowed)  -- 16
     ∷ []
-
-abbrev pub testsOf01 : Act → Station → Bool → Desk → ℕ → Vehicle → List Test
-testsOf01 (acts.Open view class asked) x force d time v = testsOf (acts.Open view class asked) x force d time v
-testsOf01 (acts.Through view) x force d time v = testsOf (acts.Through view) x force d time v
-testsOf01 (acts.Return asked granted) x force d time v = testsOf (acts.Return asked granted) x force d time v
-testsOf01 (acts.Train endorsed view asked granted) x force d time v = departTests force d time (trainTests01 d granted)
-testsOf01 (acts.Receive sender form) x force d time v = testsOf (acts.Receive sender form) x force d time v
 
 -- "RETURN and TRAIN set holds to granted"
 abbrev pub holdsAfter01 : Movement → ℕ → ℕ
@@ -87,7 +80,42 @@ atSpeed speed (Refuse why) = Refuse why
 atSpeed speed (Depart p) = Depart (record { desk = p .desk; vehicle = p .vehicle; order = record { forms = p .order .forms; speed = speed } })
 atSpeed speed (Arrive d) = Arrive d
 
--- ---- the step
+-- ---- what T-08 altered
+
+-- "RETURN: 11 as before; 14 no guest. .. 16 granted above asked at S"
+abbrev pub returnTests01 : Desk → ℕ → List Test
+returnTests01 d granted =
+    (ltb 0 (d .clears .holds), HoldsLineClear)  -- 11
+    ∷ (eqb (d .guest) 0, NoGuest)  -- 14
+    ∷ (ltb (d .clears .asked) granted, GrantNotAllowed)  -- 16
+    ∷ []
+
+-- ---- a step like today's
+
+-- the tests of an act, with these own ones of a RETURN and of a TRAIN
+abbrev pub testsBy : (Desk → ℕ → List Test) → (Desk → ℕ → List Test) → Act → Station → Bool → Desk → ℕ → Vehicle → List Test
+testsBy ofReturn ofTrain (acts.Open view class asked) x force d time v = testsOf (acts.Open view class asked) x force d time v
+testsBy ofReturn ofTrain (acts.Through view) x force d time v = testsOf (acts.Through view) x force d time v
+testsBy ofReturn ofTrain (acts.Return asked granted) x force d time v = departTests force d time (ofReturn d granted)
+testsBy ofReturn ofTrain (acts.Train endorsed view asked granted) x force d time v = departTests force d time (ofTrain d granted)
+testsBy ofReturn ofTrain (acts.Receive sender form) x force d time v = testsOf (acts.Receive sender form) x force d time v
+
+-- a step by which the act of a station comes to this plan; whoever declares, and a MEET, as today
+abbrev pub enteredBy : (Act → Station → Bool → Desk → ℕ → Vehicle → Plan) → Section → Event → Stepped
+enteredBy plan s Begin = entered s Begin
+enteredBy plan s (At x time act) = doneBy s (Says (At x time act)) x (plan act x (s .force) (deskOf s x) time (nearestAt x (vehiclesOf s)))
+enteredBy plan s (Meet x sender form) = entered s (Meet x sender form)
+enteredBy plan s Resume = entered s Resume
+
+abbrev pub onDecodedBy : (Act → Station → Bool → Desk → ℕ → Vehicle → Plan) → Section → Decoded → Stepped
+onDecodedBy plan s (Bad why) = refused s (Bad why) why
+onDecodedBy plan s (Says event) = enteredBy plan s event
+
+-- what a step comes to, with its answer altered where that is so
+abbrev pub altered : Bool → (Answer → Answer) → Stepped → Stepped
+altered so alter r = record { answer = cond so (alter (r .answer)) (r .answer); section = r .section }
+
+-- ---- document 01's step
 
 abbrev pub effectOf01 : Act → Station → Desk → ℕ → Vehicle → Plan
 effectOf01 (acts.Open view class asked) x d time v = effectOf (acts.Open view class asked) x d time v
@@ -98,20 +126,10 @@ effectOf01 (acts.Train endorsed view asked granted) x d time v =
 effectOf01 (acts.Receive sender form) x d time v = Arrive (arriveDesk01 x d time v)
 
 abbrev pub planOf01 : Act → Station → Bool → Desk → ℕ → Vehicle → Plan
-planOf01 act x force d time v = unlessRefused (firstOf (testsOf01 act x force d time v)) (effectOf01 act x d time v)
-
-abbrev pub entered01 : Section → Event → Stepped
-entered01 s Begin = entered s Begin
-entered01 s (At x time act) = doneBy s (Says (At x time act)) x (planOf01 act x (s .force) (deskOf s x) time (nearestAt x (vehiclesOf s)))
-entered01 s (Meet x sender form) = entered s (Meet x sender form)
-entered01 s Resume = entered s Resume
-
-abbrev pub onDecoded01 : Section → Decoded → Stepped
-onDecoded01 s (Bad why) = refused s (Bad why) why
-onDecoded01 s (Says event) = entered01 s event
+planOf01 act x force d time v = unlessRefused (firstOf (testsBy returnTests01 trainTests01 act x force d time v)) (effectOf01 act x d time v)
 
 unfoldable pub stepOf01 : Section → List ℕ → Stepped
-stepOf01 s bytes = ifMade (wellMade s) s (onDecoded01 s (decode01 bytes))
+stepOf01 s bytes = ifMade (wellMade s) s (onDecodedBy planOf01 s (decode01 bytes))
 
 -- ---- "Lists from fresh once accepted throughout are answered as before"
 
@@ -137,10 +155,7 @@ isFollower s (Says Resume) = false
 
 -- a step that gives a follower a second figure, and does all else as another
 abbrev pub followersTwo : (Section → List ℕ → Stepped) → Section → List ℕ → Stepped
-followersTwo step s bytes = record {
-  answer = cond (isFollower s (decode bytes)) (withSecondFigure (step s bytes .answer)) (step s bytes .answer);
-  section = step s bytes .section;
-}
+followersTwo step s bytes = altered (isFollower s (decode bytes)) withSecondFigure (step s bytes)
 
 -- today's step gave each step of a list the answer and the section of document 01's, but that a follower's speed has its second figure beside document 01's; the section at
 -- the end is the same, nothing waits in it, and no vehicle in it left on kind 9

@@ -1,18 +1,47 @@
--- T-08, RETURN while line clears are held: what is shown of every list of steps from a fresh section about a desk with a guest, and about a RETURN that reads 11.
--- A list is worked by a step on a section and bytes; the forms and the answers in it are not looked at.
+-- T-08, RETURN while line clears are held. Masters with a guest asked what they must do on reading 11 against a RETURN: no list of steps from a fresh section leads there.
+-- The step that had 11 on RETURN stays here as a definition; shown of it is why the test could go, and of today's step that nothing but the number is lost with it.
+-- A list is worked by a step on a section and bytes, so that the forms and the answers which stand in it are not looked at.
 use Prim.Native.Nat.{_<_, ℕ}
 use Rattle.working.specs.Acts as acts
-use Rattle.working.specs.Events.{At, Says, decode}
-use Rattle.working.specs.Runs.{Done, endBy}
+use Rattle.working.specs.Acts.{Act}
+use Rattle.working.specs.Document01.{altered, onDecodedBy, returnTests01, testsBy}
+use Rattle.working.specs.Effects.{Plan, effectOf}
+use Rattle.working.specs.Events.{At, Bad, Begin, Decoded, Meet, Resume, Says, decode}
+use Rattle.working.specs.Reasons.{trainTests}
+use Rattle.working.specs.Refusals.{firstOf, numberOf}
+use Rattle.working.specs.Runs.{Done, Run, endBy, results, resultsBy}
 use Rattle.working.specs.Sections.{deskOf, fresh}
+use Rattle.working.specs.Steps.{ifMade, unlessRefused}
+use Rattle.working.specs.WellMade.{wellMade}
 use Rattle.working.specs.declared.Answer.the-variants as answer
+use Rattle.working.specs.declared.Answer.{Answer}
 use Rattle.working.specs.declared.Desk.{Desk}
-use Rattle.working.specs.declared.Refusal.the-variants.{HoldsLineClear}
+use Rattle.working.specs.declared.Refusal.the-variants.{HoldsLineClear, NoGuest}
+use Rattle.working.specs.declared.Refusal.{Refusal}
 use Rattle.working.specs.declared.Section.{Section}
 use Rattle.working.specs.declared.Station.{Station}
 use Rattle.working.specs.declared.Stepped.{Stepped}
+use Rattle.working.specs.declared.Vehicle.{Vehicle}
+use lib.Dec.{eqb}
+use mathlib.Core.Bool.{Bool, cond, false, true}
 use mathlib.Core.List.{List}
 use mathlib.Core.Path.{_≡_}
+
+-- ---- the step before T-08: today's, but that a RETURN has document 01's tests, 11 first
+
+abbrev pub planWith11 : Act → Station → Bool → Desk → ℕ → Vehicle → Plan
+planWith11 act x force d time v = unlessRefused (firstOf (testsBy returnTests01 trainTests act x force d time v)) (effectOf act x d time v)
+
+unfoldable pub stepWith11 : Section → List ℕ → Stepped
+stepWith11 s bytes = ifMade (wellMade s) s (onDecodedBy planWith11 s (decode bytes))
+
+-- ---- why the test could go
+
+-- "where a RETURN reads 11, no guest stands at that desk"
+abbrev pub NoGuestAt11 : Type 0
+NoGuestAt11 = (l : List Done) (bytes : List ℕ) (x : Station) (time asked granted : ℕ)
+    → let s = endBy stepWith11 fresh l in
+    decode bytes ≡ Says (At x time (acts.Return asked granted)) → stepWith11 s bytes .answer ≡ answer.Refused HoldsLineClear → deskOf s x .guest ≡ 0
 
 -- "holds nothing and owes nothing", and nothing waits there
 pub record Free (d : Desk) : Type 0 where
@@ -20,12 +49,39 @@ pub record Free (d : Desk) : Type 0 where
   pub owes : d .clears .owes ≡ 0
   pub waiting : d .waiting ≡ 0
 
--- "in every such list a desk with a guest holds nothing and owes nothing"
+-- "in every such list a desk with a guest holds nothing and owes nothing": by the step with 11 on RETURN, and by today's
 abbrev pub GuestsFree : (Section → List ℕ → Stepped) → Type 0
 GuestsFree step = (l : List Done) (x : Station) → let d = deskOf (endBy step fresh l) x in 0 < d .guest → Free d
 
--- "where a RETURN reads 11, no guest stands at that desk"
-abbrev pub NoGuestAtEleven : (Section → List ℕ → Stepped) → Type 0
-NoGuestAtEleven step = (l : List Done) (bytes : List ℕ) (x : Station) (time asked granted : ℕ)
-    → let s = endBy step fresh l in
-    decode bytes ≡ Says (At x time (acts.Return asked granted)) → step s bytes .answer ≡ answer.Refused HoldsLineClear → deskOf s x .guest ≡ 0
+-- ---- what became of the lists
+
+abbrev pub saysReturn : Decoded → Bool
+saysReturn (Bad why) = false
+saysReturn (Says Begin) = false
+saysReturn (Says (At x time (acts.Open view class asked))) = false
+saysReturn (Says (At x time (acts.Through view))) = false
+saysReturn (Says (At x time (acts.Return asked granted))) = true
+saysReturn (Says (At x time (acts.Train endorsed view asked granted))) = false
+saysReturn (Says (At x time (acts.Receive sender form))) = false
+saysReturn (Says (Meet x sender form)) = false
+saysReturn (Says Resume) = false
+
+-- 14 in place of 11
+abbrev pub reason14 : Refusal → Refusal
+reason14 why = cond (eqb (numberOf why) 11) NoGuest why
+
+abbrev pub answer14 : Answer → Answer
+answer14 (answer.Refused why) = answer.Refused (reason14 why)
+answer14 (answer.Accepted form forms speed) = answer.Accepted form forms speed
+
+-- a step by which a RETURN reads 14 where it reads 11 by another, and which does all else as that
+abbrev pub returns14 : (Section → List ℕ → Stepped) → Section → List ℕ → Stepped
+returns14 step s bytes = altered (saysReturn (decode bytes)) answer14 (step s bytes)
+
+-- today's step gave each step of a list the section and the answer of the step before T-08, but that a RETURN which read 11 reads 14; and the section at the end is the same
+pub record AsWith11 {l : List Done} {s : Section} (run : Run fresh l s) : Type 0 where
+  pub each : results run ≡ resultsBy (returns14 stepWith11) fresh l
+  pub end : s ≡ endBy stepWith11 fresh l
+
+abbrev pub AnsweredAsWith11 : Type 0
+AnsweredAsWith11 = (l : List Done) (s : Section) (run : Run fresh l s) → AsWith11 run

@@ -1,4 +1,5 @@
--- Document 01, "Reasons by who causes them", with T-02 on refusal 16 and T-03 on kind 9: what each kind is refused for, in rising order. Refusals 1 to 4 stand in Entries.
+-- Document 01, "Reasons by who causes them", with T-02 on refusal 16, T-03 on kind 9 and T-08 on refusal 11: what each kind is refused for, in rising order.
+-- Refusals 1 to 4 stand in Entries.
 use Prim.Native.Nat.{_+_, suc, ℕ}
 use Rattle.working.specs.Acts as acts
 use Rattle.working.specs.Acts.{Act}
@@ -52,10 +53,10 @@ openTests d =
     ∷ (ltb 0 (d .guest), GuestHere)  -- 13
     ∷ []
 
+-- T-08: "drop that test from RETURN", which was 11, "and keep 11 for OPEN and THROUGH"
 abbrev pub returnTests : Desk → ℕ → List Test
 returnTests d granted =
-    (ltb 0 (d .clears .holds), HoldsLineClear)  -- 11
-    ∷ (eqb (d .guest) 0, NoGuest)  -- 14
+    (eqb (d .guest) 0, NoGuest)  -- 14
     ∷ (ltb (d .clears .asked) granted, GrantNotAllowed)  -- 16
     ∷ []
 

@@ -8,7 +8,6 @@ pub return-verdict-spec : {M : Type 1} → statement M
 return-verdict-spec =
     tie.close
     (tie.spec
-    (λ c. rw (lt-ltb _ _ (c .if1 .taken)))
-    (λ c. rw (le-ltb _ _ (c .before .if1 .left), eq-eqb _ _ (c .if2 .taken)))
-    (λ c. let guest = c .before in rw (le-ltb _ _ (guest .before .if1 .left), ne-eqb _ _ (guest .if2 .left), lt-ltb _ _ (c .if3 .taken)))
-    (λ c. let guest = c .before in rw (le-ltb _ _ (guest .before .if1 .left), ne-eqb _ _ (guest .if2 .left), le-ltb _ _ (c .if3 .left))))
+    (λ c. rw (eq-eqb _ _ (c .if1 .taken)))
+    (λ c. rw (ne-eqb _ _ (c .before .if1 .left), lt-ltb _ _ (c .if2 .taken)))
+    (λ c. rw (ne-eqb _ _ (c .before .if1 .left), le-ltb _ _ (c .if2 .left))))

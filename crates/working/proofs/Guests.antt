@@ -20,7 +20,7 @@ use Rattle.working.specs.Events.{At, Bad, Begin, Decoded, Meet, Resume, 
 use Rattle.working.specs.Guests.{AnsweredAsWith11, Free, GuestsFree, NoGuestAt11, answer14, planWith11, reason14, returns14, saysReturn, stepWith11}
 use Rattle.working.specs.Reasons.{departTests, lastTests, returnTests}
 use Rattle.working.specs.Refusals.{Test, firstOf, numberOf, orElse}
-use Rattle.working.specs.Runs.{Done, Run, endBy, next, resultsBy, resultsOf, stop}
+use Rattle.working.specs.Runs.{Done, Run, endBy, next, results, resultsBy, resultsOf, stop}
 use Rattle.working.specs.Sections.{deskOf, fresh, nearestAt, noneRefused, numberAt, otherAt, vehiclesOf}
 use Rattle.working.specs.Steps.{doneBy, entered, onDecoded, stepOf, unlessRefused}
 use Rattle.working.specs.WellMade.{wellMade}
@@ -170,6 +170,24 @@ list-as {s} g (next {t = t} {d = d} {l = l} h r) =
 
 pub answered-as-with-11 : AnsweredAsWith11
 answered-as-with-11 l s run = let (each, end) = list-as (good-emptied false noneRefused) run in record { each = each-result run ∙ each; end = end }
+
+-- ---- what they say, over lists that nothing computes
+
+-- a master with a guest never read 11 against a RETURN
+never-eleven : (l : List Done) (bytes : List ℕ) (x : Station) (time asked granted : ℕ)
+    → let s = endBy stepWith11 fresh l in
+    decode bytes ≡ Says (At x time (acts.Return asked granted)) → 0 < deskOf s x .guest → stepWith11 s bytes .answer ≡ answer.Refused HoldsLineClear → ⊥
+never-eleven l bytes x time asked granted says guest reads = omega (arith, no-guest-at-11 l bytes x time asked granted says reads)
+
+-- his desk has nothing held, owed or waiting, by either step
+nothing-there : (l : List Done) (x : Station)
+    → (let d = deskOf (endBy stepWith11 fresh l) x in 0 < d .guest → d .clears .holds + d .clears .owes + d .waiting ≡ 0)
+    × (let d = deskOf (endBy stepOf fresh l) x in 0 < d .guest → d .clears .holds + d .clears .owes + d .waiting ≡ 0)
+nothing-there l x = (λ guest. omega (arith, guests-free-with-11 l x guest), λ guest. omega (arith, guests-free l x guest))
+
+-- every answer and every section, and the section at the end
+same-but-14 : {l : List Done} {s : Section} (run : Run fresh l s) → (results run ≡ resultsBy (returns14 stepWith11) fresh l) × (s ≡ endBy stepWith11 fresh l)
+same-but-14 {l} {s} run = let k = answered-as-with-11 l s run in (k .each, k .end)
 
 -- ---- such lists there are
 

@@ -1,9 +1,11 @@
-//! The two editions of the step, and the places where they differ.
+//! The editions of the step, and the places where they differ.
 //!
 //! Request T-02 promises that lists once accepted throughout are answered as
 //! before. T-03 leaves that promise as it is, and T-07 alters it in nothing but a
 //! follower's speed. To hold the step to it, document 01's own step is kept beside
-//! today's. Only tests and walks use it.
+//! today's. T-08 drops a test from RETURN that no list from the fresh section needs;
+//! to show that, the step as it stood before it is kept as well. Only tests, walks and
+//! the choice of some stored cases use these two.
 
 use crate::entry::Table;
 use crate::section::{Desk, Vehicle};
@@ -12,11 +14,14 @@ use crate::step::Speed;
 /// By which document a step answers.
 #[derive(Clone, Copy, Debug, Default, PartialEq, Eq, Hash)]
 pub enum Edition {
-    /// Document 01 with request T-01 and without T-02, T-03 and T-07. Its section has
-    /// no line clears waiting and none given up: from the fresh section on, these
+    /// Document 01 with request T-01 and without T-02, T-03, T-07 and T-08. Its section
+    /// has no line clears waiting and none given up: from the fresh section on, these
     /// figures stay 0.
     Document01,
-    /// Document 01 with requests T-01, T-02, T-03 and T-07.
+    /// Document 01 with requests T-01, T-02, T-03 and T-07: today's step, but that
+    /// line clears held bar a RETURN.
+    BeforeT08,
+    /// Document 01 with requests T-01, T-02, T-03, T-07 and T-08.
     #[default]
     Today,
 }
@@ -27,7 +32,15 @@ impl Edition {
     pub(crate) fn table(self) -> &'static Table {
         match self {
             Edition::Document01 => &Table::DOCUMENT_01,
-            Edition::Today => &Table::SINGLE_LINE,
+            Edition::BeforeT08 | Edition::Today => &Table::SINGLE_LINE,
+        }
+    }
+
+    /// Whether a RETURN is held back while this desk holds line clears.
+    pub(crate) fn bars_a_return_from(self, desk: &Desk) -> bool {
+        match self {
+            Edition::Document01 | Edition::BeforeT08 => desk.holds > 0,
+            Edition::Today => false,
         }
     }
 
@@ -36,7 +49,7 @@ impl Edition {
         match self {
             // Only the last of a series, which leaves no line clear held.
             Edition::Document01 => desk.holds <= 1,
-            Edition::Today => desk.owes == 0,
+            Edition::BeforeT08 | Edition::Today => desk.owes == 0,
         }
     }
 
@@ -50,7 +63,7 @@ impl Edition {
         match self {
             // One figure for the whole run.
             Edition::Document01 => Speed::Limit(straight),
-            Edition::Today => Speed::Two {
+            Edition::BeforeT08 | Edition::Today => Speed::Two {
                 straight,
                 elsewhere: 10,
             },
@@ -66,7 +79,7 @@ impl Edition {
                     desk.holds = vehicle.granted;
                 }
             }
-            Edition::Today => {
+            Edition::BeforeT08 | Edition::Today => {
                 if vehicle.granted > 0 {
                     desk.waiting = vehicle.granted;
                 }
@@ -84,6 +97,9 @@ mod tests {
     use super::*;
     use crate::entry::Kind;
     use crate::refusal::Refusal;
+
+    /// The step before T-08 and today's, which differ in one place alone.
+    const BY_TODAYS_TABLE: [Edition; 2] = [Edition::BeforeT08, Edition::Today];
 
     /// Holds, owes and waiting after line clears were taken.
     fn taken(edition: Edition, kind: Kind, granted: u8, before: [u8; 3]) -> [u8; 3] {
@@ -106,8 +122,9 @@ mod tests {
     #[test]
     fn document_01_has_no_kind_9_whatever_else_stands_in_a_whole_entry() {
         let both = |bytes: &[u8]| {
-            [Edition::Document01, Edition::Today]
-                .map(|edition| edition.table().decode(bytes))
+            let [before, today] = BY_TODAYS_TABLE.map(|edition| edition.table().decode(bytes));
+            assert_eq!(before, today);
+            [Edition::Document01.table().decode(bytes), today]
                 .map(|read| read.map_or_else(Refusal::number, |_| 0))
         };
         // Right, with another map, with a field out of its range.
@@ -142,36 +159,40 @@ mod tests {
 
     #[test]
     fn today_a_grant_replaces_what_waits_and_moves_where_none_is_owed() {
-        for kind in [Kind::Return, Kind::Train, Kind::LastTrain] {
-            let taken = |granted, before| taken(Edition::Today, kind, granted, before);
-            assert_eq!(taken(3, [5, 1, 0]), [5, 1, 3]);
-            assert_eq!(taken(3, [5, 1, 4]), [5, 1, 3]);
-            assert_eq!(taken(3, [5, 0, 0]), [3, 0, 0]);
-            assert_eq!(taken(3, [5, 0, 4]), [3, 0, 0]);
+        for edition in BY_TODAYS_TABLE {
+            for kind in [Kind::Return, Kind::Train, Kind::LastTrain] {
+                let taken = |granted, before| taken(edition, kind, granted, before);
+                assert_eq!(taken(3, [5, 1, 0]), [5, 1, 3]);
+                assert_eq!(taken(3, [5, 1, 4]), [5, 1, 3]);
+                assert_eq!(taken(3, [5, 0, 0]), [3, 0, 0]);
+                assert_eq!(taken(3, [5, 0, 4]), [3, 0, 0]);
+            }
         }
     }
 
     #[test]
     fn today_a_receipt_without_a_grant_moves_what_waits_or_nothing() {
-        for kind in Kind::ALL.into_iter().filter(|kind| kind.is_departure()) {
-            let taken = |before| taken(Edition::Today, kind, 0, before);
-            assert_eq!(taken([5, 0, 0]), [5, 0, 0]);
-            assert_eq!(taken([5, 1, 0]), [5, 1, 0]);
-            assert_eq!(taken([5, 1, 4]), [5, 1, 4]);
-            assert_eq!(taken([5, 0, 4]), [4, 0, 0]);
+        for edition in BY_TODAYS_TABLE {
+            for kind in Kind::ALL.into_iter().filter(|kind| kind.is_departure()) {
+                let taken = |before| taken(edition, kind, 0, before);
+                assert_eq!(taken([5, 0, 0]), [5, 0, 0]);
+                assert_eq!(taken([5, 1, 0]), [5, 1, 0]);
+                assert_eq!(taken([5, 1, 4]), [5, 1, 4]);
+                assert_eq!(taken([5, 0, 4]), [4, 0, 0]);
+            }
         }
     }
 
     #[test]
     fn a_follower_has_one_figure_in_document_01_and_two_today() {
         for (view, straight) in [(1, 25), (2, 10), (3, 10)] {
-            let speeds = [Edition::Document01, Edition::Today]
+            let speeds = [Edition::Document01, Edition::BeforeT08, Edition::Today]
                 .map(|edition| edition.speed_of_a_follower(view));
             let two = Speed::Two {
                 straight,
                 elsewhere: 10,
             };
-            assert_eq!(speeds, [Speed::Limit(straight), two]);
+            assert_eq!(speeds, [Speed::Limit(straight), two, two]);
         }
     }
 
@@ -190,7 +211,27 @@ mod tests {
         ] {
             let desk = desk(holds, owes);
             assert_eq!(Edition::Document01.lets_a_train_grant(&desk), document_01);
-            assert_eq!(Edition::Today.lets_a_train_grant(&desk), today);
+            for edition in BY_TODAYS_TABLE {
+                assert_eq!(edition.lets_a_train_grant(&desk), today);
+            }
+        }
+    }
+
+    #[test]
+    fn line_clears_held_bar_a_return_in_all_editions_but_todays() {
+        for holds in 0..=8 {
+            // Nothing else of the desk is looked at.
+            for (guest, owes) in [(0, 0), (0, 8), (5, 0), (5, 8)] {
+                let desk = Desk {
+                    guest,
+                    holds,
+                    owes,
+                    ..Desk::default()
+                };
+                let bars = [Edition::Document01, Edition::BeforeT08, Edition::Today]
+                    .map(|edition| edition.bars_a_return_from(&desk));
+                assert_eq!(bars, [holds > 0, holds > 0, false]);
+            }
         }
     }
 }

@@ -27,6 +27,10 @@ pub struct Options {
     /// Use up nearly all form numbers of one station first. This takes some
     /// 160,000 bytes, which come on top of the entries wished for.
     pub worn: bool,
+    /// Of the steps of a list, try many RETURNs from a desk that holds line clears,
+    /// unless only accepted entries are wished for. A log has them now and then
+    /// without this.
+    pub returns_while_holding: bool,
     /// By which edition of the step entries are accepted.
     pub edition: Edition,
     /// End the log at so many bytes, inside an entry if need be; where only
@@ -109,7 +113,30 @@ impl Generator {
     /// The bytes of one more step of a list, in which, other than in a log,
     /// cut bytes may stand anywhere.
     pub fn next_step(&mut self) -> Vec<u8> {
+        if let Some(entry) = self.return_while_holding() {
+            let bytes = bytes_of(&entry);
+            self.step(&bytes);
+            return bytes;
+        }
         self.make_step()
+    }
+
+    /// Where it is wished for, a RETURN from a desk that holds line clears, perhaps
+    /// with the interval running and with more granted than was asked.
+    fn return_while_holding(&mut self) -> Option<Entry> {
+        if !self.options.returns_while_holding || self.options.accepted {
+            return None;
+        }
+        let station = Station::BOTH
+            .into_iter()
+            .find(|&station| self.desk(station).holds > 0)?;
+        if !self.random.chance(20) {
+            return None;
+        }
+        let time = self.later_than(self.desk(station).clock);
+        let asked = self.perhaps_some_trains();
+        let granted = self.perhaps_some_trains();
+        Some(Entry::send_back(station, time, asked, granted))
     }
 
     fn desk(&self, station: Station) -> Desk {

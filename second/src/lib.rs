@@ -1,6 +1,6 @@
 //! Two stations and the section between them, worked under total failure of
 //! communication: a second reading of the document and of requests T-01, T-02,
-//! T-03, T-05, T-06 and T-07, written from them alone, so that the first can be
+//! T-03, T-05, T-06, T-07 and T-08, written from them alone, so that the first can be
 //! compared with it. What stands here is the single line; [`double`] has the double
 //! line, with the same names.
 //!
@@ -9,8 +9,8 @@
 //! * [`Section`] is all that is held, and [`Section::is_well_made`] tests it,
 //! * [`step()`] and [`step_in_place`] answer one entry, and [`refused_for`] says
 //!   whose a refused one is,
-//! * [`step_by`] answers by an [`Edition`] of choice: today's step, or document
-//!   01's own, with which it is compared,
+//! * [`step_by`] answers by an [`Edition`] of choice: today's step, or one of two
+//!   older ones, with which it is compared,
 //! * [`Run`] runs a whole log, and [`list`] prints it,
 //! * [`generator`] makes logs, and [`walk`] holds the claims about lists of
 //!   steps against them,

@@ -1,7 +1,7 @@
 //! Long walks that hold the claims about lists of steps against themselves.
 //!
 //! A list starts from the fresh section, and each step gets the section that
-//! the step before it left. Five claims are tested:
+//! the step before it left. Seven claims are tested:
 //!
 //! * two vehicles heading towards one another both left on T/B 602 at 15 km/h
 //!   or less, at the end of every list;
@@ -15,11 +15,16 @@
 //! * as long as document 01's own step has refused none of a list, every answer
 //!   and every section is as that step gives it, with no line clear waiting and
 //!   none given up, but that an answer with a caution order has two figures where
-//!   that step gives one.
+//!   that step gives one;
+//! * every answer and every section is as the step before T-08 gives it, but that a
+//!   RETURN which that step answers 11 is answered 14;
+//! * where it is, no guest stands at that desk, by either step; and a desk with a
+//!   guest holds nothing, owes nothing and has nothing waiting, by either.
 //!
 //! What a vehicle left on, and so whether it is a train, is looked up in the list
-//! of entries and answers and not in the vehicle's own record. Every state of a walk is the end of a list,
-//! so the first three claims are tested after every step.
+//! of entries and answers and not in the vehicle's own record. Every state of a walk
+//! is the end of a list, so the first three claims are tested after every step, and
+//! the last three for every step once its list is made.
 
 use std::fmt;
 
@@ -27,6 +32,7 @@ use crate::edition::Edition;
 use crate::entry::{Entry, Kind, Table};
 use crate::generator::{Generator, Options};
 use crate::random::Random;
+use crate::refusal::Refusal;
 use crate::section::{Desk, Refused, Section, Station, Vehicle};
 use crate::step::{form, refused_for, step_by, Accepted, Answer, Speed};
 use crate::working::Working;
@@ -71,6 +77,18 @@ impl Step {
         let entry = self.entry.as_ref()?;
         let kind = Kind::from_number(entry.kind)?;
         Some((kind, entry, self.answer.as_ref().ok()?))
+    }
+
+    /// Whether it was handed a RETURN, accepted or refused.
+    fn is_return(&self) -> bool {
+        let kind = self.entry.as_ref().map(|entry| entry.kind);
+        kind == Some(Kind::Return.number())
+    }
+
+    /// The desk of its station, if it was handed an entry of one.
+    fn desk_in<'a>(&self, section: &'a Section) -> Option<&'a Desk> {
+        let station = Station::from_number(self.entry.as_ref()?.station)?;
+        Some(section.desk(station))
     }
 
     /// Whether a train endorsed as the last left with it.
@@ -118,6 +136,10 @@ pub struct Tally {
     pub compared_states: u64,
     /// Lists so compared to their end.
     pub compared_lists: u64,
+    /// States in which a guest stood at a desk.
+    pub guest_states: u64,
+    /// RETURNs answered 14 that the step before T-08 answers 11.
+    pub returns_once_11: u64,
     /// The most vehicles in the section at one time.
     pub most_vehicles: usize,
 }
@@ -129,7 +151,7 @@ impl fmt::Display for Tally {
             "lists {}, states {}, refused {}, opposed pairs {}, owing states {}, \
              waiting states {}, given up states {}, swaps {}, with a last train {}, \
              steps rerun {}, states compared with document 01 {}, lists compared whole {}, \
-             most vehicles {}",
+             guest states {}, returns once 11 and now 14 {}, most vehicles {}",
             self.lists,
             self.states,
             self.refused,
@@ -142,6 +164,8 @@ impl fmt::Display for Tally {
             self.rerun,
             self.compared_states,
             self.compared_lists,
+            self.guest_states,
+            self.returns_once_11,
             self.most_vehicles
         )
     }
@@ -161,11 +185,13 @@ pub fn walk(seed: u64, steps: u64) -> Result<Tally, Failure> {
 /// # Errors
 ///
 /// The first claim of demand 3 that does not hold; where all hold to the end, the
-/// first list that is not answered as before.
+/// first list that is not answered as before; else the first list in which a guest
+/// stands where none may, or that is not answered as before T-08.
 pub fn walk_with(stepper: &impl Stepper, seed: u64, steps: u64) -> Result<Tally, Failure> {
     let mut random = Random::new(seed);
     let mut tally = Tally::default();
     let mut as_before = Ok(());
+    let mut as_before_t08 = Ok(());
     while tally.states < steps {
         let length = any_length(&mut random, steps - tally.states);
         let mut generator = Generator::new(random.word(), any_options(&mut random));
@@ -173,9 +199,11 @@ pub fn walk_with(stepper: &impl Stepper, seed: u64, steps: u64) -> Result<Tally,
         swap_neighbours(stepper, &list, &sections, &mut tally)?;
         let compared = compare(&list, &sections, &mut tally);
         as_before = as_before.and(compared);
+        let compared = compare_with_before_t08(&list, &sections, &mut tally);
+        as_before_t08 = as_before_t08.and(compared);
         tally.lists += 1;
     }
-    as_before.map(|()| tally)
+    as_before.and(as_before_t08).map(|()| tally)
 }
 
 /// How long the next list is, where so many steps are left to walk.
@@ -191,13 +219,25 @@ fn compare(list: &[Step], sections: &[Section], tally: &mut Tally) -> Result<(),
     Ok(())
 }
 
+fn compare_with_before_t08(
+    list: &[Step],
+    sections: &[Section],
+    tally: &mut Tally,
+) -> Result<(), Failure> {
+    tally.guest_states += check_guests(list, sections)?;
+    tally.returns_once_11 += check_as_before_t08(list, sections)?;
+    Ok(())
+}
+
 /// One list in four has only entries that document 01's own step accepts, so
-/// that many are compared with it to their end.
+/// that many are compared with it to their end. In every list that has refused
+/// entries many are RETURNs that the step before T-08 answers 11.
 fn any_options(random: &mut Random) -> Options {
     let as_before = random.chance(25);
     Options {
         accepted: as_before || random.chance(40),
         full: random.chance(20),
+        returns_while_holding: true,
         edition: if as_before {
             Edition::Document01
         } else {
@@ -444,6 +484,69 @@ fn with_both_figures(accepted: Accepted) -> Accepted {
     }
 }
 
+/// Compares a list with what the step before T-08 makes of it, refused steps and cut
+/// bytes among it, and counts the RETURNs that this step answers 11. `sections` has
+/// the section before each step, and the last one at its end.
+///
+/// # Errors
+///
+/// An answer or a section that is not as the step before T-08 gives it, but that a
+/// RETURN which it answers 11 has to be answered 14.
+pub fn check_as_before_t08(list: &[Step], sections: &[Section]) -> Result<u64, Failure> {
+    let mut before = Section::fresh();
+    let mut returns_once_11 = 0;
+    for (place, (step, after)) in list.iter().zip(&sections[1..]).enumerate() {
+        let mut answer = step_by(Edition::BeforeT08, &mut before, &step.bytes);
+        if step.is_return() && answer == Err(Refusal::HoldsLineClear) {
+            returns_once_11 += 1;
+            answer = Err(Refusal::NoGuest);
+        }
+        if step.answer != answer || *after != before {
+            let given = step.answer;
+            let claim =
+                format!("{given:?} is not as by the step before T-08: {answer:?} {before:?}");
+            return fail(&list[..=place], after, &claim);
+        }
+    }
+    Ok(returns_once_11)
+}
+
+/// Tests the desks with a guest, by this list's own sections and by those that the
+/// step before T-08 leads to, and counts the list's states with a guest. `sections`
+/// is as in [`check_as_before_t08`].
+///
+/// # Errors
+///
+/// A desk with a guest from which a RETURN is answered 11 by the step before T-08;
+/// one that holds or owes a line clear, or where one waits.
+pub fn check_guests(list: &[Step], sections: &[Section]) -> Result<u64, Failure> {
+    let mut before = Section::fresh();
+    let mut guest_states = 0;
+    for (place, (step, pair)) in list.iter().zip(sections.windows(2)).enumerate() {
+        let [lent, after] = [&pair[0], &pair[1]];
+        let lent_before = before.clone();
+        let answer = step_by(Edition::BeforeT08, &mut before, &step.bytes);
+        if step.is_return() && answer == Err(Refusal::HoldsLineClear) {
+            for section in [lent, &lent_before] {
+                if step.desk_in(section).is_some_and(|desk| desk.guest > 0) {
+                    let claim = "a RETURN was 11 where a guest stands";
+                    return fail(&list[..=place], section, claim);
+                }
+            }
+        }
+        for section in [after, &before] {
+            for desk in section.desks.iter().filter(|desk| desk.guest > 0) {
+                if [desk.holds, desk.owes, desk.waiting] != [0; 3] {
+                    let claim = format!("a guest stands where line clears are: {desk:?}");
+                    return fail(&list[..=place], section, &claim);
+                }
+            }
+        }
+        guest_states += u64::from(after.desks.iter().any(|desk| desk.guest > 0));
+    }
+    Ok(guest_states)
+}
+
 /// Changes the places of every two neighbours that may change them, and runs
 /// what is left of the list again each time.
 fn swap_neighbours(
@@ -512,7 +615,7 @@ fn check_swap(
 mod tests {
     use super::*;
     use crate::entry::{encode, LONGEST_ENTRY};
-    use crate::refusal::Refusal;
+    use crate::generator::bytes_of;
     use crate::step::step_in_place;
 
     fn run(entries: &[Entry]) -> (Vec<Step>, Section) {
@@ -816,6 +919,130 @@ mod tests {
             answer.forms = answer.forms.wrapping_add_signed(forms);
             answer.speed = speed;
             assert!(check_as_before(&list, &sections).is_err(), "{forms}");
+        }
+    }
+
+    /// A holds two. Its master tries to send back a guest that he has not, at once and
+    /// behind his first train, with the interval running; cut bytes stand between.
+    fn returns_without_a_guest() -> Vec<Vec<u8>> {
+        let mut entries = two_trains(0, 1);
+        entries.insert(6, Entry::send_back(Station::A, 1, 0, 0));
+        entries.insert(5, Entry::send_back(Station::A, 0, 8, 8));
+        let mut list: Vec<Vec<u8>> = entries.iter().map(bytes_of).collect();
+        list.insert(6, vec![0x07, 4, 1]);
+        list
+    }
+
+    /// The list by this edition, with its sections.
+    fn run_by(edition: Edition, list: &[Vec<u8>]) -> (Vec<Step>, Vec<Section>) {
+        let mut section = Section::fresh();
+        let mut sections = vec![section.clone()];
+        let mut steps = Vec::new();
+        for bytes in list {
+            let answer = step_by(edition, &mut section, bytes);
+            steps.push(Step::new(bytes.clone(), answer));
+            sections.push(section.clone());
+        }
+        (steps, sections)
+    }
+
+    #[test]
+    fn a_return_once_11_is_14_and_all_else_is_as_before_t_08() {
+        let number = |step: &Step| step.answer.map_or_else(Refusal::number, |_| 0);
+        let bytes = returns_without_a_guest();
+        let (list, sections) = run_by(Edition::Today, &bytes);
+        let numbers: Vec<u8> = list.iter().map(number).collect();
+        assert_eq!(numbers, [0, 0, 0, 0, 0, 14, 1, 0, 14, 0, 0, 0]);
+        assert_eq!(check_as_before_t08(&list, &sections), Ok(2));
+        // A's opener stands at B after the third step, and no longer after the fourth.
+        assert_eq!(check_guests(&list, &sections), Ok(1));
+        // By the step before T-08 it reads 11, which is wrong today; the sections are
+        // the same.
+        let (once, once_sections) = run_by(Edition::BeforeT08, &bytes);
+        let numbers: Vec<u8> = once.iter().map(number).collect();
+        assert_eq!(numbers, [0, 0, 0, 0, 0, 11, 1, 0, 11, 0, 0, 0]);
+        assert_eq!(once_sections, sections);
+        assert!(check_as_before_t08(&once, &sections).is_err());
+        assert_eq!(check_as_before_t08(&once[..5], &sections[..6]), Ok(0));
+        assert_eq!(check_guests(&once, &sections), Ok(1));
+    }
+
+    #[test]
+    fn another_answer_or_another_section_than_before_t_08_fails() {
+        let (list, sections) = run_by(Edition::Today, &returns_without_a_guest());
+        let refusals = [Refusal::HoldsLineClear, Refusal::NoGuest, Refusal::Cut];
+        let answers = refusals.map(Err).into_iter().chain([Ok(Accepted::NO_FORM)]);
+        let changes: [fn(&mut Section); 4] = [
+            |section| section.desks[0].holds += 1,
+            |section| section.desks[1].guest += 1,
+            |section| section.refused.for_a += 1,
+            |section| section.refused.of_none += 1,
+        ];
+        for place in 0..list.len() {
+            for answer in answers.clone() {
+                let mut altered = list.clone();
+                altered[place].answer = answer;
+                let fails = check_as_before_t08(&altered, &sections).is_err();
+                assert_eq!(fails, answer != list[place].answer, "{answer:?} at {place}");
+            }
+            for change in changes {
+                let mut altered = sections.clone();
+                change(&mut altered[place + 1]);
+                assert!(check_as_before_t08(&list, &altered).is_err(), "{place}");
+            }
+        }
+    }
+
+    /// The first line of what a claim about guests says of a list with other sections.
+    fn of_guests(change: impl Fn(&mut [Section])) -> Result<u64, String> {
+        let (list, mut sections) = run_by(Edition::Today, &returns_without_a_guest());
+        change(&mut sections);
+        let first_line = |failure: Failure| failure.0.lines().next().map(str::to_owned);
+        check_guests(&list, &sections).map_err(|failure| first_line(failure).unwrap())
+    }
+
+    #[test]
+    fn a_guest_where_a_return_was_11_fails() {
+        let with_a_guest = |place: usize, station: Station| {
+            of_guests(move |sections| {
+                let desk = sections[place].desk_mut(station);
+                // So that it is not the other claim that fails.
+                (desk.guest, desk.holds, desk.owes) = (1, 0, 0);
+            })
+        };
+        let fails = Err("a RETURN was 11 where a guest stands".to_owned());
+        // The sections before the two RETURNs.
+        assert_eq!(with_a_guest(5, Station::A), fails);
+        assert_eq!(with_a_guest(8, Station::A), fails);
+        // At the other desk, and before a step that is no RETURN, one more state has one.
+        assert_eq!(with_a_guest(5, Station::B), Ok(2));
+        assert_eq!(with_a_guest(7, Station::A), Ok(2));
+    }
+
+    #[test]
+    fn a_guest_where_line_clears_are_fails() {
+        let changes: [fn(&mut Desk); 3] = [
+            |desk| desk.holds = 1,
+            |desk| desk.owes = 1,
+            |desk| desk.waiting = 1,
+        ];
+        for change in changes {
+            // The guest stands at B after the third step.
+            let failure = of_guests(|sections| change(&mut sections[3].desks[1]));
+            let failure = failure.unwrap_err();
+            assert!(failure.starts_with("a guest stands where line clears are"));
+            assert_eq!(
+                of_guests(|sections| change(&mut sections[3].desks[0])),
+                Ok(1)
+            );
+            assert_eq!(
+                of_guests(|sections| change(&mut sections[2].desks[1])),
+                Ok(1)
+            );
+        }
+        // B holds one and A owes it at the end.
+        for station in [0, 1] {
+            assert!(of_guests(|sections| sections[12].desks[station].guest = 5).is_err());
         }
     }
 

@@ -9,7 +9,7 @@ use second::cases::{all, expected, input, Case, LONGEST};
 use second::figures::Figures;
 use second::generator::{any_section, Generator, Options};
 use second::random::Random;
-use second::{Entry, Kind, Section, Station, Vehicle};
+use second::{Entry, Kind, Refusal, Section, Station, Vehicle};
 
 static CASES: LazyLock<Vec<Case>> = LazyLock::new(all);
 
@@ -411,6 +411,77 @@ fn the_last_train_by_hand() {
     let mut none = before;
     none[OF_NONE + 3] = 1;
     expect_step(&before, &[0x4F, 10, 1, 0, 10, 3, 2], "no 2", &none);
+}
+
+#[test]
+fn a_return_while_line_clears_are_held_by_hand() {
+    for (station, desk, count, answer) in [
+        (1, DESK_A, FOR_A, "ok 8 172 B"),
+        (2, DESK_B, FOR_B, "ok 8 180 B"),
+    ] {
+        // Its opener is out and a guest of class 4 is here; it is asked for 3, holds 1,
+        // owes 2, and 6 wait.
+        let before = figures(&[
+            (IN_FORCE, &[1]),
+            (desk, &[0, 30, 0, 7, 3, 1, 0, 15, 1, 4, 3, 1, 2, 6]),
+        ]);
+        // It takes 3 granted along, which are owed; what is held and waits stays.
+        let after = figures(&[
+            (0, &[4, station, 0, 8, 3 - station, 0, 4, 0, 3, 0]),
+            (PRESENT, &[1, 1]),
+            (desk, &[0, 45, 0, 8, 4, 1, 0, 45, 1, 0, 0, 1, 3, 6]),
+        ]);
+        let grants = [0x47, 4, station, 0, 45, 3];
+        expect_step(&before, &grants, answer, &after);
+        assert!(CASES.contains(&step_case(&before, &grants)));
+        // Without the guest it is 14, and counted for its station.
+        let back = [0x07, 4, station, 0, 45];
+        let mut no_guest = before;
+        no_guest[desk + 9] = 0;
+        let mut refused = no_guest;
+        refused[count + 3] = 1;
+        expect_step(&no_guest, &back, "no 14", &refused);
+        assert!(CASES.contains(&step_case(&no_guest, &back)));
+        // A THROUGH is 11 with the guest, where it is not out and owes nothing.
+        let mut engine = before;
+        (engine[desk + 8], engine[desk + 12]) = (0, 0);
+        let mut refused = engine;
+        refused[count + 3] = 1;
+        let through = [0x1F, 3, station, 0, 45, 1, 1];
+        expect_step(&engine, &through, "no 11", &refused);
+        assert!(CASES.contains(&step_case(&engine, &through)));
+    }
+}
+
+/// Of a desk with a guest and of one without, for either station.
+#[test]
+fn sections_have_a_return_from_every_number_of_line_clears_held_that_matters() {
+    for station in [1, 2] {
+        let mut accepted = BTreeSet::new();
+        let mut without_a_guest = BTreeSet::new();
+        for case in CASES.iter() {
+            let Case::Step { section, bytes } = case else {
+                continue;
+            };
+            let &[_, 4, at, ..] = &bytes[..] else {
+                continue;
+            };
+            if at != station {
+                continue;
+            }
+            let holds = section.desks[usize::from(station - 1)].holds;
+            match second::step(section, bytes).0 {
+                Ok(_) => accepted.insert(holds),
+                Err(Refusal::NoGuest) => without_a_guest.insert(holds),
+                Err(refusal) => {
+                    assert_ne!(refusal, Refusal::HoldsLineClear);
+                    false
+                }
+            };
+        }
+        assert!(accepted.is_superset(&[0, 1, 2, 3, 5, 7, 8].into()));
+        assert!(without_a_guest.is_superset(&[0, 1, 3, 8].into()));
+    }
 }
 
 #[test]
@@ -916,7 +987,7 @@ fn the_input_is_read_back() {
     let input = input(&CASES);
     assert_eq!(parsed(&input), *CASES);
     assert_eq!(all(), *CASES);
-    assert!(input.len() < 350_000, "{}", input.len());
+    assert!(input.len() < 360_000, "{}", input.len());
 }
 
 #[test]

@@ -149,7 +149,7 @@ fn a_return_without_messages_clears_the_enquiry() {
 fn a_series_of_trains_runs_booked_then_slower() {
     let mut register = a_holds(4);
     register.refuse(11, Entry::open(A, 95, 1, 1, 1));
-    register.refuse(11, Entry::send_back(A, 95, 0, 0));
+    register.refuse(14, Entry::send_back(A, 95, 0, 0));
     let first = register.accept(Entry::train(A, 95, 3, 0, 0));
     assert_eq!(first, answer(2, 168, Speed::Booked));
     register.refuse(19, Entry::train(A, 124, 1, 0, 0));

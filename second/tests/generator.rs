@@ -4,7 +4,7 @@ use std::collections::{BTreeMap, BTreeSet};
 use std::process::{Command, Output};
 use std::sync::LazyLock;
 
-use second::generator::{log, Options};
+use second::generator::{log, Generator, Options};
 use second::{
     entry_length, list, Accepted, Desk, Edition, Entry, Kind, Line, Refusal, Run, Section, Speed,
     Station, Vehicle, LONGEST_LOG,
@@ -425,6 +425,95 @@ fn a_log_by_document_01_is_accepted_and_has_nothing_waiting() {
         }
     }
     assert!(grants > 100, "{grants}");
+}
+
+/// How many RETURNs of a log are refused at a desk that holds line clears and has no
+/// guest, each with 14.
+fn returns_while_holding_in(log: &[u8]) -> usize {
+    let mut returns = 0;
+    for_each_line(log, |before, line, _| {
+        let Some(station) = line.station() else {
+            return;
+        };
+        let desk = before.desk(station);
+        let barred = line.answer == Err(Refusal::NoGuest);
+        if line.kind() == Kind::Return.number() && desk.holds > 0 && barred {
+            assert_eq!(desk.guest, 0);
+            returns += 1;
+        }
+        // 11 is for engines alone.
+        if line.answer == Err(Refusal::HoldsLineClear) {
+            assert!([2, 3].contains(&line.kind()));
+        }
+    });
+    returns
+}
+
+#[test]
+fn returns_are_tried_now_and_then_while_line_clears_are_held() {
+    let logs = (1..=48).map(|seed| log(seed, 300, Options::default()));
+    let many = logs.filter(|log| returns_while_holding_in(log) > 0).count();
+    assert!(many > 6, "{many} of 48");
+    for log in LOGS.iter() {
+        assert!(returns_while_holding_in(log) > 5);
+    }
+}
+
+/// T-08 alters no log: with the section worked by the step before it, the generator
+/// looks at the same section and draws the same entries. Nor does the option for lists.
+#[test]
+fn logs_are_as_they_were_before_t_08() {
+    for accepted in [false, true] {
+        for full in [false, true] {
+            let options = Options {
+                accepted,
+                full,
+                ..Options::default()
+            };
+            let before = Options {
+                edition: Edition::BeforeT08,
+                returns_while_holding: true,
+                ..options
+            };
+            for seed in 0..24 {
+                let is_same = log(seed, 300, options) == log(seed, 300, before);
+                assert!(is_same, "seed {seed}");
+            }
+        }
+    }
+}
+
+/// The steps of a list in which RETURNs are tried while line clears are held; none
+/// where only accepted entries are wished for.
+#[test]
+fn lists_have_many_returns_while_line_clears_are_held() {
+    for accepted in [false, true] {
+        let options = Options {
+            accepted,
+            returns_while_holding: true,
+            ..Options::default()
+        };
+        let (mut holding, mut returns) = (0, 0);
+        for seed in 0..10 {
+            let mut generator = Generator::new(seed, options);
+            for _ in 0..300 {
+                let desks = generator.section().desks;
+                let bytes = generator.next_step();
+                holding += u32::from(desks.iter().any(|desk| desk.holds > 0));
+                if let &[_, 4, station @ (1 | 2), ..] = &bytes[..] {
+                    let desk = desks[usize::from(station - 1)];
+                    returns += u32::from(desk.holds > 0);
+                }
+            }
+        }
+        assert!(holding > 200, "{holding}");
+        let expected = if accepted {
+            0..1
+        } else {
+            holding / 10..holding / 3
+        };
+        assert!(expected.contains(&returns), "{returns} of {holding}");
+    }
 }
 
 #[test]

@@ -107,10 +107,10 @@ fn refusals_10_to_13_in_their_order() {
 }
 
 #[test]
-fn refusals_11_14_and_16_of_a_return() {
+fn refusals_14_and_16_of_a_return() {
     let mut register = a_holds_two();
-    // A return with line clears held and no guest reads 11.
-    register.refuse(11, Entry::send_back(A, 95, 0, 8));
+    // A return without a guest reads 14, with line clears held as well.
+    register.refuse(14, Entry::send_back(A, 95, 0, 8));
     let mut register = Register::begun();
     register.refuse(14, Entry::send_back(A, 0, 0, 8));
     let mut register = guest_at_b();

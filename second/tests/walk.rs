@@ -5,7 +5,8 @@ use std::process::{Command, Output};
 
 use second::walk::{walk, walk_with, Stepper};
 use second::{
-    decode, step_in_place, Accepted, Answer, Desk, Kind, Refusal, Section, Speed, Station, Vehicle,
+    decode, step_by, step_in_place, Accepted, Answer, Desk, Edition, Kind, Refusal, Section, Speed,
+    Station, Vehicle,
 };
 
 #[test]
@@ -22,6 +23,8 @@ fn the_claims_hold_on_a_share_of_the_walks() {
         assert!(tally.rerun > 10 * tally.swaps, "{tally}");
         assert!(tally.compared_states > 1_000, "{tally}");
         assert!(tally.compared_lists > 3, "{tally}");
+        assert!(tally.guest_states > 40, "{tally}");
+        assert!(tally.returns_once_11 > 10, "{tally}");
         assert_eq!(tally.most_vehicles, 24, "{tally}");
     }
 }
@@ -364,6 +367,59 @@ fn two_figures_on_an_opener_are_caught() {
         speed => speed,
     });
     is_caught_as(&message, "opposed");
+}
+
+/// It holds all that demand 3 and T-02 claim, so nothing else shows it.
+#[test]
+fn a_return_that_still_reads_11_is_caught() {
+    let message = walk_that_fails(&|section: &mut Section, bytes: &[u8]| -> Answer {
+        step_by(Edition::BeforeT08, section, bytes)
+    });
+    is_caught_as(&message, "not as by the step before T-08");
+}
+
+#[test]
+fn a_return_without_a_guest_that_does_not_read_14_is_caught() {
+    let message = walk_that_fails(&|section: &mut Section, bytes: &[u8]| -> Answer {
+        match step_in_place(section, bytes) {
+            Err(Refusal::NoGuest) => Err(Refusal::NoLineClear),
+            answer => answer,
+        }
+    });
+    is_caught_as(&message, "not as by the step before T-08");
+}
+
+/// OPEN and THROUGH are to read 11 still.
+#[test]
+fn an_engine_that_reads_14_where_line_clears_are_held_is_caught() {
+    let message = walk_that_fails(&|section: &mut Section, bytes: &[u8]| -> Answer {
+        match step_in_place(section, bytes) {
+            Err(Refusal::HoldsLineClear) => Err(Refusal::NoGuest),
+            answer => answer,
+        }
+    });
+    is_caught_as(&message, "not as by the step before T-08");
+}
+
+/// A guest is shown, and never looked at, where a desk holds and owes line clears at
+/// once. By document 01 none does, so what was once accepted throughout does not show
+/// it, and no other claim speaks of guests.
+#[test]
+fn a_guest_at_a_desk_that_holds_and_owes_is_caught() {
+    let show = |section: &mut Section, guest| {
+        for desk in &mut section.desks {
+            if desk.holds > 0 && desk.owes > 0 {
+                desk.guest = guest;
+            }
+        }
+    };
+    let message = walk_that_fails(&|section: &mut Section, bytes: &[u8]| -> Answer {
+        show(section, 0);
+        let answer = step_in_place(section, bytes);
+        show(section, 1);
+        answer
+    });
+    is_caught_as(&message, "a guest stands where line clears are");
 }
 
 #[test]

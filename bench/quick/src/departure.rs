@@ -114,10 +114,9 @@ impl Departure {
         let first = if returns { 5 } else { 6 };
         // A TRAIN grants only where its station owes none. Not in force there is
         // neither guest nor line clear, so one test serves for 7 too.
-        let clears = if returns { HOLDS } else { only(grants, OWES) };
         Departure {
             ranges: Ranges::of(map),
-            bars: clears | USED_UP,
+            bars: only(grants && !returns, OWES) | USED_UP,
             needs: if returns { GUEST } else { HOLDS },
             keep: !(only(returns, GUEST | ASKED) | only(grants, OWES | ASKED) | only(last, HOLDS)),
             add: SENT_ONE + FORM_ONE - only(one, HOLDS_ONE),

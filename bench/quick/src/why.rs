@@ -95,7 +95,7 @@ fn departing(figures: u64, entry: u64, kind: usize) -> usize {
     let train = is_train(kind);
     if engine && stands(OUT) {
         10
-    } else if !train && stands(HOLDS) {
+    } else if engine && stands(HOLDS) {
         11
     } else if engine && stands(OWES) {
         12

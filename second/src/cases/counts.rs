@@ -84,7 +84,7 @@ fn entries_of(station: Station) -> [Entry; 6] {
     [
         Entry::open(station, 510, 1, 1, 1),
         Entry::through(station, 510, 1),
-        Entry::send_back(station, 510, 0, 0),
+        Entry::send_back(station, 509, 0, 0),
         Entry::last_train(station, 510, 1, 0, 1),
         Entry::train(station, 499, 1, 0, 0),
         Entry::receive(station, 510, station, 40),
@@ -200,7 +200,7 @@ mod tests {
 
     #[test]
     fn the_sorts_are_refused_and_counted_as_the_readings_say() {
-        let station = [10, 10, 11, 16, 9, 20, 7, 7, 7, 22, 7, 1, 2, 3, 4];
+        let station = [10, 10, 19, 16, 9, 20, 7, 7, 7, 22, 7, 1, 2, 3, 4];
         let none = [6, 8, 7, 1];
         let handed = of_every_sort(DISTINCT);
         assert_eq!(answers(&handed), [&station[..], &station, &none].concat());

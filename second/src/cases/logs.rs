@@ -26,6 +26,7 @@ pub(super) fn cases() -> Vec<Case> {
     logs.extend(cut());
     logs.extend(Station::BOTH.map(counted));
     logs.extend(generated());
+    logs.push(written(&returns_while_holding()));
     logs.into_iter().map(|log| Case::Log { log }).collect()
 }
 
@@ -364,7 +365,7 @@ fn refused_throughout() -> Vec<Entry> {
         Entry::through(B, 105, 1),
         Entry::receive(B, 105, B, 1),
     ]);
-    // Line clears are held: 11, 16, 19, 21, 15.
+    // Line clears are held: 11, 14, 16, 19, 21, 15.
     entries.extend([
         Entry::receive(A, 95, B, 1),
         Entry::open(A, 95, 1, 1, 1),
@@ -444,6 +445,44 @@ fn refused_last_trains() -> Vec<Entry> {
         Entry::resume(),
         Entry::receive(A, 200, B, 2),
         Entry::last_train(A, 200, 1, 0, 0),
+    ]
+}
+
+/// Masters without a guest try to send one back, most of them while they hold line
+/// clears, and then send the trains that these are for (T-08).
+fn returns_while_holding() -> Vec<Entry> {
+    vec![
+        Entry::begin(),
+        Entry::open(A, 10, 1, 2, 2),
+        Entry::receive(B, 70, A, 1),
+        // The guest is at B.
+        Entry::send_back(A, 70, 0, 0),
+        Entry::send_back(B, 75, 3, 2),
+        Entry::receive(A, 95, B, 1),
+        // A holds two and is asked for three: 9, and 14 with and without a reply.
+        Entry::send_back(A, 94, 0, 0),
+        Entry::send_back(A, 95, 0, 0),
+        Entry::send_back(A, 95, 1, 3),
+        Entry::send_back(A, 95, 0, 4),
+        // What is held bars engines: 11.
+        Entry::open(A, 95, 1, 1, 1),
+        Entry::through(A, 95, 1),
+        // One is left to A, and the interval runs.
+        Entry::train(A, 96, 1, 0, 3),
+        Entry::send_back(A, 97, 0, 0),
+        Entry::train(A, 126, 1, 0, 0),
+        Entry::send_back(A, 156, 0, 0),
+        // At B three wait, and are held once its last train is in.
+        Entry::receive(B, 150, A, 2),
+        Entry::send_back(B, 150, 0, 0),
+        Entry::receive(B, 180, A, 3),
+        Entry::send_back(B, 180, 0, 0),
+        Entry::train(B, 180, 2, 0, 0),
+        Entry::last_train(B, 210, 3, 0, 0),
+        Entry::receive(A, 200, B, 2),
+        Entry::receive(A, 230, B, 3),
+        // Nothing is held or owed any more.
+        Entry::through(B, 240, 1),
     ]
 }
 
@@ -653,7 +692,7 @@ mod tests {
         };
         let throughout = [
             7, 7, 7, 7, 7, 7, 7, 0, 6, 20, 20, 14, 15, 0, 8, 9, 10, 10, 9, 20, 20, 0, 13, 13, 15,
-            16, 9, 0, 14, 12, 12, 21, 0, 11, 11, 11, 16, 0, 19, 21, 16, 0, 15, 8,
+            16, 9, 0, 14, 12, 12, 21, 0, 11, 11, 14, 16, 0, 19, 21, 16, 0, 15, 8,
         ];
         assert_eq!(numbers(&refused_throughout()), throughout);
         assert_eq!(numbers(&mirrored(&refused_throughout())), throughout);
@@ -665,6 +704,10 @@ mod tests {
         ];
         assert_eq!(numbers(&refused_last_trains()), last_trains);
         assert_eq!(numbers(&mirrored(&refused_last_trains())), last_trains);
+        let returns = [
+            0, 0, 0, 14, 0, 0, 9, 14, 14, 14, 11, 11, 0, 14, 0, 14, 0, 14, 0, 14, 0, 0, 0, 0, 0,
+        ];
+        assert_eq!(numbers(&returns_while_holding()), returns);
         let meetings = [
             7, 0, 22, 0, 22, 0, 22, 0, 22, 22, 0, 22, 20, 20, 0, 0, 0, 21, 20, 0, 0, 0, 0, 22,
         ];

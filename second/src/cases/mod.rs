@@ -11,6 +11,7 @@
 mod counts;
 mod double;
 mod given_up;
+mod guests;
 mod logs;
 mod positions;
 mod runs;

@@ -102,7 +102,7 @@ enum lupin_refusal {
     LUPIN_VEHICLE_PRESENT = 8,    /* RESUME while a vehicle is in the section */
     LUPIN_BEFORE_CLOCK = 9,       /* the time is before this station's last accepted entry */
     LUPIN_OPENER_AWAY = 10,       /* OPEN, THROUGH: this station's own opener is away */
-    LUPIN_HOLDS_LINE_CLEAR = 11,  /* OPEN, THROUGH, RETURN: line clears are held here */
+    LUPIN_HOLDS_LINE_CLEAR = 11,  /* OPEN, THROUGH: line clears are held here */
     LUPIN_OWES_LINE_CLEAR = 12,   /* OPEN, THROUGH: line clears given here are still owed */
     LUPIN_GUEST_HERE = 13,        /* OPEN, THROUGH: the other station's opener stands here */
     LUPIN_NO_GUEST = 14,          /* RETURN: no opener of the other station stands here */

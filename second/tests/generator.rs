@@ -25,6 +25,16 @@ fn lister_sized(seed: u64, options: Options) -> Vec<u8> {
     log(seed, LONGEST_LOG, options)
 }
 
+/// Any entries or accepted ones alone, in any section or a full one.
+fn four_ways() -> [Options; 4] {
+    let ways = [(false, false), (false, true), (true, false), (true, true)];
+    ways.map(|(accepted, full)| Options {
+        accepted,
+        full,
+        ..Options::default()
+    })
+}
+
 fn for_each_line(log: &[u8], mut look: impl FnMut(&Section, &Line, &Section)) {
     let mut run = Run::new(log);
     let mut before = run.section().clone();
@@ -79,12 +89,7 @@ fn a_worn_log_reaches_18() {
 
 #[test]
 fn a_full_section_is_kept_full() {
-    for accepted in [false, true] {
-        let options = Options {
-            accepted,
-            full: true,
-            ..Options::default()
-        };
+    for options in four_ways().into_iter().filter(|options| options.full) {
         let (mut full, mut states) = (0, 0);
         for_each_line(&lister_sized(1, options), |_, _, after| {
             states += 1;
@@ -463,22 +468,15 @@ fn returns_are_tried_now_and_then_while_line_clears_are_held() {
 /// looks at the same section and draws the same entries. Nor does the option for lists.
 #[test]
 fn logs_are_as_they_were_before_t_08() {
-    for accepted in [false, true] {
-        for full in [false, true] {
-            let options = Options {
-                accepted,
-                full,
-                ..Options::default()
-            };
-            let before = Options {
-                edition: Edition::BeforeT08,
-                returns_while_holding: true,
-                ..options
-            };
-            for seed in 0..24 {
-                let is_same = log(seed, 300, options) == log(seed, 300, before);
-                assert!(is_same, "seed {seed}");
-            }
+    for options in four_ways() {
+        let before = Options {
+            edition: Edition::BeforeT08,
+            returns_while_holding: true,
+            ..options
+        };
+        for seed in 0..24 {
+            let is_same = log(seed, 300, options) == log(seed, 300, before);
+            assert!(is_same, "seed {seed}");
         }
     }
 }
@@ -557,17 +555,10 @@ fn every_listing_fits_the_room_that_hosts_lend() {
     for log in LOGS.iter() {
         fits_the_room_lent(log);
     }
-    for accepted in [false, true] {
-        for full in [false, true] {
-            let options = Options {
-                accepted,
-                full,
-                ..Options::default()
-            };
-            fits_the_room_lent(&lister_sized(7, options));
-            for entries in 0..60 {
-                fits_the_room_lent(&log(entries, entries as usize, options));
-            }
+    for options in four_ways() {
+        fits_the_room_lent(&lister_sized(7, options));
+        for entries in 0..60 {
+            fits_the_room_lent(&log(entries, entries as usize, options));
         }
     }
     // The shortest entries that are accepted, and the shortest of all.

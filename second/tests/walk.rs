@@ -378,27 +378,21 @@ fn a_return_that_still_reads_11_is_caught() {
     is_caught_as(&message, "not as by the step before T-08");
 }
 
+/// A RETURN without a guest is to read 14, OPEN and THROUGH are to read 11 still.
 #[test]
-fn a_return_without_a_guest_that_does_not_read_14_is_caught() {
-    let message = walk_that_fails(&|section: &mut Section, bytes: &[u8]| -> Answer {
-        match step_in_place(section, bytes) {
-            Err(Refusal::NoGuest) => Err(Refusal::NoLineClear),
-            answer => answer,
-        }
-    });
-    is_caught_as(&message, "not as by the step before T-08");
-}
-
-/// OPEN and THROUGH are to read 11 still.
-#[test]
-fn an_engine_that_reads_14_where_line_clears_are_held_is_caught() {
-    let message = walk_that_fails(&|section: &mut Section, bytes: &[u8]| -> Answer {
-        match step_in_place(section, bytes) {
-            Err(Refusal::HoldsLineClear) => Err(Refusal::NoGuest),
-            answer => answer,
-        }
-    });
-    is_caught_as(&message, "not as by the step before T-08");
+fn another_refusal_in_place_of_14_or_11_is_caught() {
+    for (right, wrong) in [
+        (Refusal::NoGuest, Refusal::NoLineClear),
+        (Refusal::HoldsLineClear, Refusal::NoGuest),
+    ] {
+        let message = walk_that_fails(&|section: &mut Section, bytes: &[u8]| -> Answer {
+            match step_in_place(section, bytes) {
+                Err(refusal) if refusal == right => Err(wrong),
+                answer => answer,
+            }
+        });
+        is_caught_as(&message, "not as by the step before T-08");
+    }
 }
 
 /// A guest is shown, and never looked at, where a desk holds and owes line clears at

@@ -12,7 +12,7 @@ use Rattle.double.specs.declared.Section.{Section}
 use Rattle.double.specs.declared.Stepped.{Stepped}
 use Rattle.working.proofs.Corollaries.{Fine, FineSaid, fine-said}
 use Rattle.working.proofs.Lists.{split-run}
-use Rattle.working.proofs.Tests.{Other, allOther, first-other}
+use Rattle.working.proofs.Tests.{IsNot, first-is-not, noneIs}
 use Rattle.working.specs.Events.{Bad, Says}
 use Rattle.working.specs.Refusals.{firstOf}
 use Rattle.working.specs.Runs.{Done, next}
@@ -23,10 +23,10 @@ use mathlib.Core.Bool.{true}
 use mathlib.Core.List.{List, _++_, _∷_}
 use mathlib.Core.Path.{_≡_, ap, refl}
 
-fine-says : (s : Section) (e : Event) → allOther 5 (testsOf s e) ≡ true → Fine (effectOf s e .answer) → Fine (onDecoded s (Says e) .answer)
-fine-says s e none fine = by (firstOf (testsOf s e)) (first-other 5 (testsOf s e) none)
+fine-says : (s : Section) (e : Event) → noneIs 5 (testsOf s e) ≡ true → Fine (effectOf s e .answer) → Fine (onDecoded s (Says e) .answer)
+fine-says s e none fine = by (firstOf (testsOf s e)) (first-is-not 5 (testsOf s e) none)
   where
-    by : (v : Verdict) → Other 5 v → Fine (settled s (Says e) v (effectOf s e) .answer)
+    by : (v : Verdict) → IsNot 5 v → Fine (settled s (Says e) v (effectOf s e) .answer)
     by (Refused why) h = h
     by Allowed h = fine
 

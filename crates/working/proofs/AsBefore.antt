@@ -11,11 +11,11 @@ use Rattle.working.proofs.Clauses.{Shape}
 use Rattle.working.proofs.Invariant.{Halves, far-holds}
 use Rattle.working.proofs.Kept.{Between, Good, good-emptied, good-step, kept-at}
 use Rattle.working.proofs.KindNine.{no-kind-nine, none-last}
-use Rattle.working.proofs.Lists.{each-result, step-did}
+use Rattle.working.proofs.Lists.{ListAs, each-result, next-as, step-did}
 use Rattle.working.proofs.Made.{Well, other-sender, vehicles-with}
-use Rattle.working.proofs.ReplyLast.{Allowed01, ReplyLast, replies-far, near-rest, paid}
 use Rattle.working.proofs.Reasons.{depart-passes, receive-passes}
 use Rattle.working.proofs.Receipts.{Receipt, nothing-replied, of-other, of-own, receipt}
+use Rattle.working.proofs.ReplyLast.{Allowed01, ReplyLast, near-rest, paid, replies-far}
 use Rattle.working.proofs.Sides.{moves-far, moves-met, moves-none, moves-own, moves-past, moves-skip, movesOf}
 use Rattle.working.proofs.Tests.{NoneHolds, both, no-test, none-holds, or-left, or-right, some-test, zero-test}
 use Rattle.working.proofs.Vehicles.{From, NotFrom, every-end, nearest, not-other, number-same, ordered-far}
@@ -27,7 +27,7 @@ use Rattle.working.specs.Effects.{Arrive, Depart, Plan, Refuse, arriveDe
 use Rattle.working.specs.Events.{At, Bad, Begin, Decoded, Meet, Resume, Says, decode}
 use Rattle.working.specs.Reasons.{departTests, mayEnter, returnTests, testsOf, trainTests}
 use Rattle.working.specs.Refusals.{Test, firstOf}
-use Rattle.working.specs.Runs.{Done, Run, acceptsBy, endBy, next, resultsBy, resultsOf, stop}
+use Rattle.working.specs.Runs.{Done, Run, acceptsBy, next, stop}
 use Rattle.working.specs.Sections.{deskOf, freshDesk, insertAt, nearestAt, noneRefused, otherAt, vehiclesOf, withDesk, withHolds, withVehicles}
 use Rattle.working.specs.Speeds.{follows}
 use Rattle.working.specs.Steps.{doneBy, entered, metAt, onDecoded, planOf, stepOf, unlessRefused}
@@ -50,7 +50,7 @@ use borrow.Author.Tests.{lt-ltb, ltb-false, ltb-true}
 use lib.Dec.{eqb, ltb}
 use mathlib.Core.Bool.{Bool, _&&_, and-false, cond, false, false≢true, not, true}
 use mathlib.Core.List.{List, [], _++_, _∷_}
-use mathlib.Core.Path.{_∙_, _≡_, ap, ap₂, refl, sym}
+use mathlib.Core.Path.{_∙_, _≡_, ap, refl, sym}
 
 -- what stands beside the invariant, seen from station x, whose desk is d, the other's o
 pub record RepliesLast (x : Station) (d o : Desk) (l : List Vehicle) : Type 0 where
@@ -219,7 +219,7 @@ passes01 : (s : Section) (e : Decoded) (x : Station) (v : Verdict) (p : Plan) �
 passes01 s e x (Refused why) p accepted = absurd (false≢true accepted)
 passes01 s e x Allowed p accepted = refl
 
--- so is what it comes to
+-- what a plan with a second figure comes to has that figure in its answer, and nothing else altered
 done-figured : (s : Section) (e : Decoded) (x : Station) (follower : Bool) (p : Plan) → doneBy s e x (figured follower p) ≡ altered follower withSecondFigure (doneBy s e x p)
 done-figured s e x true (Refuse why) = refl
 done-figured s e x true (Depart p) = refl
@@ -289,31 +289,25 @@ step-as s bytes g k accepted =
 
 -- ---- the list
 
-record ListAs (s : Section) (l : List Done) (t : Section) : Type 0 where
-  each : resultsOf s l ≡ resultsBy (followersTwo stepOf01) s l
-  end : t ≡ endBy stepOf01 s l
-  replies : RepliesLastIn t
+abbrev As01 : Section → List Done → Section → Type 0
+As01 s l t = ListAs stepOf01 (followersTwo stepOf01) (λ s bytes. refl) s l t
 
-list-as : {s t : Section} {l : List Done} → Good s → RepliesLastIn s → Run s l t → acceptsBy stepOf01 s l ≡ true → ListAs s l t
-list-as g k stop accepted = record { each = refl; end = refl; replies = k }
+list-as : {s t : Section} {l : List Done} → Good s → RepliesLastIn s → Run s l t → acceptsBy stepOf01 s l ≡ true → As01 s l t × RepliesLastIn t
+list-as g k stop accepted = (record { each = refl; end = refl }, k)
 list-as {s} g k (next {t = t} {d = d} {l = l} h r) accepted =
     let (first, others) = both (isAccepted (stepOf01 s (d .bytes) .answer)) (acceptsBy stepOf01 (stepOf01 s (d .bytes) .section) l) accepted in
     let (same, replies) = step-as s (d .bytes) g k first in
     let left = step-did d s t h .left in
-    let after : t ≡ stepOf01 s (d .bytes) .section = left ∙ ap (λ (z : Stepped). z .section) same in
-    let rest = list-as (rw left (good-step s (d .bytes) g)) (rw left replies) r (rw after others) in
-    record {
-      each = ap₂ _∷_ same (ap (λ (z : Section). resultsOf z l) (sym left) ∙ rest .each ∙ ap (λ (z : Section). resultsBy (followersTwo stepOf01) z l) after);
-      end = rest .end ∙ ap (λ (z : Section). endBy stepOf01 z l) after;
-      replies = rest .replies;
-    }
+    let there : t ≡ stepOf01 s (d .bytes) .section = left ∙ ap (λ (z : Stepped). z .section) same in
+    let (later, replies-then) = list-as (rw left (good-step s (d .bytes) g)) (rw left replies) r (rw there others) in
+    (next-as stepOf01 (followersTwo stepOf01) (λ s bytes. refl) left same later, replies-then)
 
 -- ---- the theorem
 
 pub answered-as-before : AnsweredAsBefore
 answered-as-before l s run accepted =
-    let k = list-as (good-emptied false noneRefused) last-emptied run accepted in
-    record { each = each-result run ∙ k .each; end = k .end; waiting = waiting (k .replies); unendorsed = none-last run accepted }
+    let (k, replies) = list-as (good-emptied false noneRefused) last-emptied run accepted in
+    record { each = each-result run ∙ k .each; end = k .end; waiting = waiting replies; unendorsed = none-last run accepted }
   where
     waiting : RepliesLastIn s → (x : Station) → deskOf s x .waiting ≡ 0
     waiting k A = k .own .waiting

@@ -9,10 +9,10 @@ use Rattle.working.proofs.Demand3.{kept}
 use Rattle.working.proofs.Found.{Found, cut, found, the-end, whole}
 use Rattle.working.proofs.Invariant.{Halves, all-owed, isLast, owedFor, owedOver, trainOne, weigh-snoc}
 use Rattle.working.proofs.Kept.{kept-at}
-use Rattle.working.proofs.Vehicles.{From, nearest, not-own, ordered-far}
 use Rattle.working.proofs.Lists.{split-run, step-did}
 use Rattle.working.proofs.Sides.{moves-far, moves-none, moves-skip, movesOf}
-use Rattle.working.proofs.Tests.{Other, allOther, first-other, isOther}
+use Rattle.working.proofs.Tests.{IsNot, first-is-not, isNot, noneIs}
+use Rattle.working.proofs.Vehicles.{From, nearest, not-own, ordered-far}
 use Rattle.working.specs.Acts as acts
 use Rattle.working.specs.Acts.{Act}
 use Rattle.working.specs.Demand3.{givenUpIn}
@@ -23,7 +23,7 @@ use Rattle.working.specs.Events.{At, Bad, Begin, Decoded, Event, Meet, R
 use Rattle.working.specs.Reasons.{beginTests, findOf, meetTests, resumeTests, testsOf}
 use Rattle.working.specs.Refusals.{Test, firstOf}
 use Rattle.working.specs.Runs.{Done, Run, StepBy, next}
-use Rattle.working.specs.Sections.{deskOf, fresh, vehiclesOf, nearestAt, numberAt, otherAt}
+use Rattle.working.specs.Sections.{deskOf, fresh, nearestAt, numberAt, otherAt, vehiclesOf}
 use Rattle.working.specs.Steps.{doneBy, entered, onDecoded, planOf, settled, unlessRefused}
 use Rattle.working.specs.WellMade.{isFrom}
 use Rattle.working.specs.declared.Answer.the-variants as answer
@@ -40,30 +40,31 @@ use Rattle.working.specs.declared.Vehicle.{Vehicle}
 use Rattle.working.specs.declared.Verdict.the-variants.{Allowed, Refused}
 use Rattle.working.specs.declared.Verdict.{Verdict}
 use lib.ListN.{length}
-use mathlib.Core.Bool.{Bool, false, false≢true, true}
+use mathlib.Core.Bool.{Bool, false≢true, true}
 use mathlib.Core.List.{List, [], _++_, _∷_}
 use mathlib.Core.Path.{_∙_, _≡_, ap, refl}
 use native.Mathlib.Omega.{arith}
 
 -- ---- no step is refused with 5
 
+-- an answer that is no 5
 abbrev pub Fine : Answer → Type 0
-Fine (answer.Refused why) = isOther 5 why ≡ true
+Fine (answer.Refused why) = isNot 5 why ≡ true
 Fine (answer.Accepted number forms speed) = Unit {0}
 
 module _ (s : Section) where
-  fine-settled : (e : Decoded) (ts : List Test) (t : Section) → allOther 5 ts ≡ true → Fine (settled s e (firstOf ts) t .answer)
-  fine-settled e ts t h = by (firstOf ts) (first-other 5 ts h)
+  fine-settled : (e : Decoded) (ts : List Test) (t : Section) → noneIs 5 ts ≡ true → Fine (settled s e (firstOf ts) t .answer)
+  fine-settled e ts t h = by (firstOf ts) (first-is-not 5 ts h)
     where
-      by : (v : Verdict) → Other 5 v → Fine (settled s e v t .answer)
+      by : (v : Verdict) → IsNot 5 v → Fine (settled s e v t .answer)
       by (Refused why) h = h
       by Allowed h = tt
 
-  fine-done : (e : Decoded) (x : Station) (ts : List Test) (p : Plan) → allOther 5 ts ≡ true → Fine (doneBy s e x p .answer)
+  fine-done : (e : Decoded) (x : Station) (ts : List Test) (p : Plan) → noneIs 5 ts ≡ true → Fine (doneBy s e x p .answer)
       → Fine (doneBy s e x (unlessRefused (firstOf ts) p) .answer)
-  fine-done e x ts p h ok = by (firstOf ts) (first-other 5 ts h)
+  fine-done e x ts p h ok = by (firstOf ts) (first-is-not 5 ts h)
     where
-      by : (v : Verdict) → Other 5 v → Fine (doneBy s e x (unlessRefused v p) .answer)
+      by : (v : Verdict) → IsNot 5 v → Fine (doneBy s e x (unlessRefused v p) .answer)
       by (Refused why) h = h
       by Allowed h = ok
 
@@ -83,21 +84,21 @@ module _ (s : Section) where
 
 -- what bytes come to is no 5 either, by either table
 abbrev pub FineSaid : {E : Type 0} → Said E → Type 0
-FineSaid (Bad why) = isOther 5 why ≡ true
+FineSaid (Bad why) = isNot 5 why ≡ true
 FineSaid (Says e) = Unit {0}
 
 pub fine-said : (table : Table) {E : Type 0} (event : Entry → E) (bytes : List ℕ) → FineSaid (saidAs event (readAt table bytes 0))
 unfolding judge
 fine-said table event bytes = by-found (found table bytes 0)
   where
-    by-verdict : (v : Verdict) → Other 5 v → FineSaid (saidAs event (readAs v (entryIn bytes) (0 + lengthOf (mapIn bytes))))
+    by-verdict : (v : Verdict) → IsNot 5 v → FineSaid (saidAs event (readAs v (entryIn bytes) (0 + lengthOf (mapIn bytes))))
     by-verdict (Refused why) h = h
     by-verdict Allowed h = tt
 
     by-found : Found table bytes 0 → FineSaid (saidAs event (readAt table bytes 0))
     by-found (the-end r) = rw r refl
     by-found (cut r) = rw r refl
-    by-found (whole fits r) = rw r (by-verdict (judge table (entryIn bytes)) (first-other 5 (entryTests table (entryIn bytes)) refl))
+    by-found (whole fits r) = rw r (by-verdict (judge table (entryIn bytes)) (first-is-not 5 (entryTests table (entryIn bytes)) refl))
 
 fine-decoded : (s : Section) (e : Decoded) → FineSaid e → Fine (onDecoded s e .answer)
 fine-decoded s (Bad why) h = h

@@ -100,7 +100,8 @@ returnRefused x =
     ∷ refused (Of x) (seenFrom x [] (figures 100 9998 11 (Since 71) true 1 3 8 8)) (returningWith x 1 3) IntervalRunning
     ∷ []
 
--- TRAIN, endorsed as the last or not (kind 5 or 9): 9, 15, 16 for a grant above asked, 16 for a grant while owes is above 0, 17, 18, 19; out set, a guest, and a grant that leaves holds above 0 are no reason
+-- TRAIN, endorsed as the last or not (kind 5 or 9): 9, 15, 16 for a grant above asked, 16 for a grant while owes is above 0, 17, 18, 19; out set, a guest, and a grant
+-- that leaves holds above 0 are no reason
 abbrev trainRefused : ℕ → Station → List Edge
 trainRefused kind x =
     refused (Of x) fresh (runningWith kind x 1 3) NotInForce

@@ -1,7 +1,7 @@
 -- Lists of steps: what either form of the step says is the same, a list may be taken apart and put together, and every list of bytes and forms has a run.
 -- Assumes nothing.
 use Prim.Native.Nat.{ℕ}
-use Rattle.working.specs.Runs.{Done, Form, Run, RunBy, StepBy, byValue, inPlace, next, results, resultsOf, resultsOver, resultsWith, stop}
+use Rattle.working.specs.Runs.{Done, Form, Run, RunBy, StepBy, byValue, endBy, inPlace, next, results, resultsBy, resultsOf, resultsOver, resultsWith, stop}
 use Rattle.working.specs.Steps.{stepOf}
 use Rattle.working.specs.Turns.{Working, single}
 use Rattle.working.specs.declared.Answer.{Answer}
@@ -73,6 +73,20 @@ each-result r =
     each-by StepBy stepOf (λ answer s. record { answer = answer; section = s }) (λ (r : Stepped). r .section) (λ answer s. refl)
     (λ f s bytes answer t h. let did = step-did (record { form = f; bytes = bytes; answer = answer }) s t h in λ i. record { answer = did .answered i; section = did .left i })
     r
+
+-- another step, and one alike it that leaves the same sections: each result of a list is the one's, and the section at its end the other's
+module _ (step alike : Section → List ℕ → Stepped) (sections : (s : Section) (bytes : List ℕ) → alike s bytes .section ≡ step s bytes .section) where
+  pub record ListAs (s : Section) (l : List Done) (t : Section) : Type 0 where
+    pub each : resultsOf s l ≡ resultsBy alike s l
+    pub end : t ≡ endBy step s l
+
+  pub next-as : {s t u : Section} {d : Done} {l : List Done} → t ≡ stepOf s (d .bytes) .section → stepOf s (d .bytes) ≡ alike s (d .bytes) → ListAs t l u → ListAs s (d ∷ l) u
+  next-as {s} {d = d} {l = l} left same later =
+      let there = left ∙ ap (λ (r : Stepped). r .section) same in
+      record {
+        each = ap₂ _∷_ same (ap (λ (z : Section). resultsOf z l) (sym left) ∙ later .each ∙ ap (λ (z : Section). resultsBy alike z l) there);
+        end = later .end ∙ ap (λ (z : Section). endBy step z l) (there ∙ sections s (d .bytes));
+      }
 
 abbrev pub done : Section → List Todo → List Done
 done s l = doneBy single s l

@@ -5,9 +5,9 @@
 use Prim.Native.Nat.{_%_, _+_, _<_, _≤_, ℕ}
 use Rattle.working.proofs.Clauses.{Bounds, Few, MovementMade, Shape}
 use Rattle.working.proofs.Invariant.{Halves, hauled, isOpen, kept-opener, kept-return, kept-train, uses}
-use Rattle.working.proofs.ReplyLast.{Allowed01, ReplyLast, replies-opener, replies-return, replies-train}
 use Rattle.working.proofs.Ranges.{ActMade}
 use Rattle.working.proofs.Reasons.{OpenPasses, depart-passes, open-passes, receive-passes, return-passes, train-passes}
+use Rattle.working.proofs.ReplyLast.{Allowed01, ReplyLast, replies-opener, replies-return, replies-train}
 use Rattle.working.proofs.Scans.{scanned}
 use Rattle.working.proofs.Tests.{NoneHolds, and, clash, either-most}
 use Rattle.working.specs.Acts as acts

@@ -1,4 +1,4 @@
--- Tests: what a conjunction, a disjunction, a comparison with 0 and a list of tests say of their parts.
+-- Tests: what a conjunction, a disjunction, a comparison with 0 and a list of tests say of their parts; and that a list gives no refusal of a number which none of its tests has.
 -- Assumes nothing.
 use Prim.Native.Nat.{_<_, _≤_, ℕ}
 use Rattle.working.specs.Entries.{every}
@@ -95,24 +95,24 @@ pub none-of-both : (ts us : List Test) → NoneHolds (ts ++ us) → NoneHolds ts
 none-of-both [] us n = (tt, n)
 none-of-both (t ∷ ts) us n = let p = none-of-both ts us (n .1) in ((n .0, p .0), p .1)
 
--- ---- a list of refusals of which none has this number
+-- ---- a list of tests of which none gives the refusal of this number
 
-abbrev pub isOther : ℕ → Refusal → Bool
-isOther n why = not (eqb (numberOf why) n)
+abbrev pub isNot : ℕ → Refusal → Bool
+isNot n why = not (eqb (numberOf why) n)
 
-abbrev pub Other : ℕ → Verdict → Type 0
-Other n (Refused why) = isOther n why ≡ true
-Other n Allowed = Unit {0}
+abbrev pub IsNot : ℕ → Verdict → Type 0
+IsNot n (Refused why) = isNot n why ≡ true
+IsNot n Allowed = Unit {0}
 
 -- computed on each list as it stands
-abbrev pub allOther : ℕ → List Test → Bool
-allOther n [] = true
-allOther n (t ∷ ts) = isOther n (t .1) && allOther n ts
+abbrev pub noneIs : ℕ → List Test → Bool
+noneIs n [] = true
+noneIs n (t ∷ ts) = isNot n (t .1) && noneIs n ts
 
-pub first-other : (n : ℕ) (ts : List Test) → allOther n ts ≡ true → Other n (firstOf ts)
-first-other n [] h = tt
-first-other n (t ∷ ts) h = let p = both (isOther n (t .1)) (allOther n ts) h in by (t .0) (p .0) (first-other n ts (p .1))
+pub first-is-not : (n : ℕ) (ts : List Test) → noneIs n ts ≡ true → IsNot n (firstOf ts)
+first-is-not n [] h = tt
+first-is-not n (t ∷ ts) h = let p = both (isNot n (t .1)) (noneIs n ts) h in by (t .0) (p .0) (first-is-not n ts (p .1))
   where
-    by : (b : Bool) → isOther n (t .1) ≡ true → Other n (firstOf ts) → Other n (orElse b (t .1) (firstOf ts))
+    by : (b : Bool) → isNot n (t .1) ≡ true → IsNot n (firstOf ts) → IsNot n (orElse b (t .1) (firstOf ts))
     by true here later = here
     by false here later = later

@@ -92,7 +92,7 @@ returnTests01 d granted =
 
 -- ---- a step like today's
 
--- the tests of an act, with these own ones of a RETURN and of a TRAIN
+-- the tests of an act, where a RETURN's own and a TRAIN's own are these
 abbrev pub testsBy : (Desk → ℕ → List Test) → (Desk → ℕ → List Test) → Act → Station → Bool → Desk → ℕ → Vehicle → List Test
 testsBy ofReturn ofTrain (acts.Open view class asked) x force d time v = testsOf (acts.Open view class asked) x force d time v
 testsBy ofReturn ofTrain (acts.Through view) x force d time v = testsOf (acts.Through view) x force d time v
@@ -111,7 +111,7 @@ abbrev pub onDecodedBy : (Act → Station → Bool → Desk → ℕ → Vehicle 
 onDecodedBy plan s (Bad why) = refused s (Bad why) why
 onDecodedBy plan s (Says event) = enteredBy plan s event
 
--- what a step comes to, with its answer altered where that is so
+-- what a step comes to, with its answer altered by `alter` where `so` holds
 abbrev pub altered : Bool → (Answer → Answer) → Stepped → Stepped
 altered so alter r = record { answer = cond so (alter (r .answer)) (r .answer); section = r .section }
 

@@ -1,5 +1,6 @@
 -- T-08, RETURN while line clears are held. Masters with a guest asked what they must do on reading 11 against a RETURN: no list of steps from a fresh section leads there.
--- The step that had 11 on RETURN stays here as a definition; shown of it is why the test could go, and of today's step that nothing but the number is lost with it.
+-- The step that had 11 on RETURN stays here as a definition. Of it is shown why the test could go; of today's step, that it differs from this one in nothing but the number
+-- which such a RETURN reads.
 -- A list is worked by a step on a section and bytes, so that the forms and the answers which stand in it are not looked at.
 use Prim.Native.Nat.{_<_, ℕ}
 use Rattle.working.specs.Acts as acts
@@ -27,7 +28,7 @@ use mathlib.Core.Bool.{Bool, cond, false, true}
 use mathlib.Core.List.{List}
 use mathlib.Core.Path.{_≡_}
 
--- ---- the step before T-08: today's, but that a RETURN has document 01's tests, 11 first
+-- ---- the step before T-08: today's, but that a RETURN has document 01's tests, 11 between 9 and 14
 
 abbrev pub planWith11 : Act → Station → Bool → Desk → ℕ → Vehicle → Plan
 planWith11 act x force d time v = unlessRefused (firstOf (testsBy returnTests01 trainTests act x force d time v)) (effectOf act x d time v)
@@ -43,15 +44,15 @@ NoGuestAt11 = (l : List Done) (bytes : List ℕ) (x : Station) (time asked grant
     → let s = endBy stepWith11 fresh l in
     decode bytes ≡ Says (At x time (acts.Return asked granted)) → stepWith11 s bytes .answer ≡ answer.Refused HoldsLineClear → deskOf s x .guest ≡ 0
 
--- "holds nothing and owes nothing", and nothing waits there
-pub record Free (d : Desk) : Type 0 where
+-- no line clears at a desk: none held, none owed and none waiting
+pub record NoClears (d : Desk) : Type 0 where
   pub holds : d .clears .holds ≡ 0
   pub owes : d .clears .owes ≡ 0
   pub waiting : d .waiting ≡ 0
 
 -- "in every such list a desk with a guest holds nothing and owes nothing": by the step with 11 on RETURN, and by today's
-abbrev pub GuestsFree : (Section → List ℕ → Stepped) → Type 0
-GuestsFree step = (l : List Done) (x : Station) → let d = deskOf (endBy step fresh l) x in 0 < d .guest → Free d
+abbrev pub GuestsWithoutClears : (Section → List ℕ → Stepped) → Type 0
+GuestsWithoutClears step = (l : List Done) (x : Station) → let d = deskOf (endBy step fresh l) x in 0 < d .guest → NoClears d
 
 -- ---- what became of the lists
 
@@ -67,20 +68,20 @@ saysReturn (Says (Meet x sender form)) = false
 saysReturn (Says Resume) = false
 
 -- 14 in place of 11
-abbrev pub reason14 : Refusal → Refusal
-reason14 why = cond (eqb (numberOf why) 11) NoGuest why
+abbrev pub reasonWith14 : Refusal → Refusal
+reasonWith14 why = cond (eqb (numberOf why) 11) NoGuest why
 
-abbrev pub answer14 : Answer → Answer
-answer14 (answer.Refused why) = answer.Refused (reason14 why)
-answer14 (answer.Accepted form forms speed) = answer.Accepted form forms speed
+abbrev pub answerWith14 : Answer → Answer
+answerWith14 (answer.Refused why) = answer.Refused (reasonWith14 why)
+answerWith14 (answer.Accepted form forms speed) = answer.Accepted form forms speed
 
 -- a step by which a RETURN reads 14 where it reads 11 by another, and which does all else as that
-abbrev pub returns14 : (Section → List ℕ → Stepped) → Section → List ℕ → Stepped
-returns14 step s bytes = altered (saysReturn (decode bytes)) answer14 (step s bytes)
+abbrev pub returnsWith14 : (Section → List ℕ → Stepped) → Section → List ℕ → Stepped
+returnsWith14 step s bytes = altered (saysReturn (decode bytes)) answerWith14 (step s bytes)
 
 -- today's step gave each step of a list the section and the answer of the step before T-08, but that a RETURN which read 11 reads 14; and the section at the end is the same
 pub record AsWith11 {l : List Done} {s : Section} (run : Run fresh l s) : Type 0 where
-  pub each : results run ≡ resultsBy (returns14 stepWith11) fresh l
+  pub each : results run ≡ resultsBy (returnsWith14 stepWith11) fresh l
   pub end : s ≡ endBy stepWith11 fresh l
 
 abbrev pub AnsweredAsWith11 : Type 0

@@ -5,20 +5,14 @@
 //! desk has: how many line clears it holds, and what else the case turns on. Where the
 //! case is refused, and only there, the name starts with the refusal's number.
 
-use super::sections::{at_desk, hand, Handed};
+use super::given_up::{self, barred};
+use super::named::Named;
+use super::sections::{at_desk, hand, LARGEST_DESK};
 use crate::entry::Entry;
 use crate::generator::bytes_of;
 use crate::section::{Desk, Section, Station};
 
-/// A case and what it is there for.
-type Named = (&'static str, Handed);
-
-pub(super) fn handed() -> Vec<Handed> {
-    let at_both = Station::BOTH.into_iter().flat_map(named_at);
-    at_both.map(|(_, handed)| handed).collect()
-}
-
-fn named_at(station: Station) -> Vec<Named> {
+pub(super) fn named_at(station: Station) -> Vec<Named> {
     [
         guests_sent_back(station),
         without_a_guest(station),
@@ -34,16 +28,10 @@ fn named_at(station: Station) -> Vec<Named> {
 /// largest.
 fn ready() -> Desk {
     Desk {
-        clock: 30,
-        last_form: 7,
-        sent: 3,
-        interval: Some(15),
-        out: true,
-        guest: 4,
-        asked: 3,
         holds: 5,
         owes: 2,
         waiting: 6,
+        ..given_up::ready()
     }
 }
 
@@ -85,16 +73,10 @@ fn guests_sent_back(station: Station) -> Vec<Named> {
         ..Desk::default()
     };
     let largest = Desk {
-        clock: u16::MAX,
         last_form: 9_998,
         sent: 11,
         interval: Some(u16::MAX - 30),
-        out: true,
-        guest: 5,
-        asked: 8,
-        holds: 8,
-        owes: 8,
-        waiting: 8,
+        ..LARGEST_DESK
     };
     vec![
         ("1 held, no grant", back(one, 45, 0, 0)),
@@ -165,15 +147,8 @@ fn guest_at_the_other_desk(station: Station) -> Vec<Named> {
 /// Not in force; then everything that bars a RETURN at once, taken away one after
 /// the other, while 8 are held.
 fn refusals_in_their_order(station: Station) -> Vec<Named> {
-    let mut desk = Desk {
-        clock: 30,
-        last_form: 9_999,
-        sent: 12,
-        interval: Some(30),
-        asked: 3,
-        holds: 8,
-        ..Desk::default()
-    };
+    let mut desk = barred();
+    desk.holds = 8;
     let back = |desk: Desk, time, granted| {
         let entry = Entry::send_back(station, time, 0, granted);
         hand(at_desk(station, desk), &entry)
@@ -240,17 +215,12 @@ fn trains_behind_the_guest(station: Station) -> Vec<Named> {
 #[cfg(test)]
 mod tests {
     use super::*;
+    use crate::cases::named::number;
     use crate::cases::runs;
     use crate::edition::Edition;
     use crate::entry::Kind;
-    use crate::refusal::Refusal;
     use crate::section::Vehicle;
-    use crate::step::{step, step_by, Accepted, Answer, Speed};
-
-    /// The number of the refusal, 0 where there is none.
-    fn number(answer: Answer) -> u8 {
-        answer.map_or_else(Refusal::number, |_| 0)
-    }
+    use crate::step::{step, step_by, Accepted, Speed};
 
     fn number_named(name: &str) -> u8 {
         let digits: String = name.chars().take_while(char::is_ascii_digit).collect();
@@ -269,19 +239,6 @@ mod tests {
                 assert_eq!(number(answer), number_named(name), "{name}");
             }
         }
-    }
-
-    #[test]
-    fn both_stations_have_the_same_names_and_each_once() {
-        let names = |station| -> Vec<&str> {
-            let named = named_at(station).into_iter();
-            named.map(|(name, _)| name).collect()
-        };
-        assert_eq!(names(Station::A), names(Station::B));
-        let mut sorted = names(Station::A);
-        sorted.sort_unstable();
-        sorted.dedup();
-        assert_eq!(sorted.len(), names(Station::A).len());
     }
 
     /// Every figure of the desk and of the vehicle after a guest was sent back, by
@@ -383,14 +340,6 @@ mod tests {
             assert_eq!(numbers, [0, 14, 0, 0, 15]);
             let desk = after.desk(station);
             assert_eq!([desk.holds, desk.owes, desk.waiting], [0, 3, 6]);
-        }
-    }
-
-    #[test]
-    fn no_case_is_stored_twice() {
-        let handed = handed();
-        for (place, case) in handed.iter().enumerate() {
-            assert!(!handed[..place].contains(case), "{case:?}");
         }
     }
 }

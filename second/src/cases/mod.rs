@@ -13,6 +13,7 @@ mod double;
 mod given_up;
 mod guests;
 mod logs;
+mod named;
 mod positions;
 mod runs;
 mod sections;

@@ -3,7 +3,7 @@
 use std::collections::BTreeMap;
 
 use super::counts::{self, DISTINCT};
-use super::{given_up, guests, runs, waiting, Case, LONGEST, NO_ENTRIES};
+use super::{given_up, guests, named, runs, waiting, Case, LONGEST, NO_ENTRIES};
 use crate::edition::Edition;
 use crate::entry::{decode, Entry, Kind};
 use crate::generator::{any_section, bytes_of, Generator, Options};
@@ -34,21 +34,35 @@ const ALL_AT_THEIR_LARGEST: Refused = Refused {
     of_none: u32::MAX,
 };
 
+/// Every figure of a desk at its largest.
+pub(super) const LARGEST_DESK: Desk = Desk {
+    clock: u16::MAX,
+    last_form: Section::LAST_FORM,
+    sent: Section::MOST_SENT,
+    interval: Some(u16::MAX),
+    out: true,
+    guest: 5,
+    asked: 8,
+    holds: 8,
+    owes: 8,
+    waiting: 8,
+};
+
 pub(super) fn cases() -> Vec<Case> {
     let mut handed = ill_made();
     handed.extend(ill_made_before_all_else());
     handed.extend(crammed_cases());
     handed.extend(desks_at_their_limits());
     handed.extend(receipts());
-    handed.extend(waiting::handed());
+    handed.extend(named::at_both(waiting::named_at));
     handed.extend(booked_by_night());
-    handed.extend(given_up::handed());
+    handed.extend(named::at_both(given_up::named_at));
     handed.extend(meetings());
     handed.extend(counts::handed());
     handed.extend(edges());
     handed.extend(strewn());
     handed.extend(runs::handed());
-    handed.extend(guests::handed());
+    handed.extend(named::at_both(guests::named_at));
     let case = |(section, bytes)| Case::Step {
         section: Box::new(section),
         bytes,
@@ -513,18 +527,7 @@ fn crammed() -> Section {
     let vehicles: Vec<Vehicle> = of(A).chain(of(B).rev()).collect();
     put_vehicles(&mut section, &vehicles);
     section.refused = ALL_AT_THEIR_LARGEST;
-    section.desks = [Desk {
-        clock: u16::MAX,
-        last_form: Section::LAST_FORM,
-        sent: Section::MOST_SENT,
-        interval: Some(u16::MAX),
-        out: true,
-        guest: 5,
-        asked: 8,
-        holds: 8,
-        owes: 8,
-        waiting: 8,
-    }; 2];
+    section.desks = [LARGEST_DESK; 2];
     section
 }
 

@@ -1,22 +1,15 @@
 //! Line clears held, owed and waiting together, mostly as no log from the fresh
 //! section has them: what departures, receipts and declarations do with them.
 
+use super::named::Named;
 use super::sections::{at_desk, hand, one_vehicle, vehicle, Handed};
 use crate::entry::{Entry, Kind};
 use crate::section::{Desk, Section, Station, Vehicle};
 
-/// A case and what it is there for.
-type Named = (&'static str, Handed);
-
 /// Holds, owes and waiting of a desk.
 type Clears = [u8; 3];
 
-pub(super) fn handed() -> Vec<Handed> {
-    let at_both = Station::BOTH.into_iter().flat_map(named_at);
-    at_both.map(|(_, handed)| handed).collect()
-}
-
-fn named_at(station: Station) -> Vec<Named> {
+pub(super) fn named_at(station: Station) -> Vec<Named> {
     [
         grants_received(station),
         receipts_without_a_grant(station),
@@ -224,14 +217,14 @@ fn declarations(station: Station) -> Vec<Named> {
 #[cfg(test)]
 mod tests {
     use super::*;
+    use crate::cases::named::number;
     use crate::step::step;
 
     /// The number of the refusal, 0 where there is none, and the clears after it.
     fn outcome(station: Station, (section, bytes): &Handed) -> (u8, Clears) {
         let (answer, after) = step(section, bytes);
-        let number = answer.map_or_else(|refusal| refusal.number(), |_| 0);
         let desk = after.desk(station);
-        (number, [desk.holds, desk.owes, desk.waiting])
+        (number(answer), [desk.holds, desk.owes, desk.waiting])
     }
 
     #[track_caller]
@@ -378,14 +371,6 @@ mod tests {
                     assert_eq!(after.desk(other), section.desk(other), "{name}");
                 }
             }
-        }
-    }
-
-    #[test]
-    fn no_case_is_stored_twice() {
-        let handed = handed();
-        for (place, case) in handed.iter().enumerate() {
-            assert!(!handed[..place].contains(case), "{case:?}");
         }
     }
 }

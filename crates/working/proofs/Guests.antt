@@ -48,7 +48,7 @@ use native.Mathlib.Omega.{arith}
 no-clears : (x : Station) (s : Section) → Good s → 0 < deskOf s x .guest → NoClears (deskOf s x)
 no-clears x s g guest = let q = kept-at x s g .own .guests guest in record { holds = q .holds; owes = q .owes; waiting = q .waiting }
 
--- so where a line clear is held there is none
+-- so where a line clear is held no guest stands
 no-guest : (x : Station) (s : Section) → Good s → 0 < deskOf s x .clears .holds → deskOf s x .guest ≡ 0
 no-guest x s g holds = zero-unless (deskOf s x .guest) (λ guest. omega (arith, no-clears x s g guest .holds))
 
@@ -58,6 +58,7 @@ abbrev verdictWith14 : Verdict → Verdict
 verdictWith14 (Refused why) = Refused (reasonWith14 why)
 verdictWith14 Allowed = Allowed
 
+-- any refusal but 11 stays
 other-stays : (v : Verdict) → IsNot 11 v → v ≡ verdictWith14 v
 other-stays (Refused why) other = rw (not-true (eqb (numberOf why) 11) other)
 other-stays Allowed other = refl
@@ -192,11 +193,11 @@ same-but-14 {l} {s} run = let k = answered-as-with-11 l s run in (k .each, k .en
 -- ---- such lists there are
 
 -- the section after a list of entries behind BEGIN, by a step, and the answer that it gives there
-abbrev worked : (Section → List ℕ → Stepped) → List (List ℕ) → Section
-worked step l = endBy step fresh (done fresh (list l))
+abbrev reached : (Section → List ℕ → Stepped) → List (List ℕ) → Section
+reached step l = endBy step fresh (done fresh (list l))
 
 abbrev answers : (Section → List ℕ → Stepped) → List (List ℕ) → List ℕ → Answer
-answers step l bytes = step (worked step l) bytes .answer
+answers step l bytes = step (reached step l) bytes .answer
 
 -- station x holds two line clears: a RETURN that it enters read 11, and reads 14; an OPEN reads 11 by either step
 eleven-then-fourteen : (x : Station)
@@ -213,8 +214,8 @@ abbrev visit : Station → List (List ℕ)
 visit x = opens (numberAt (otherAt x)) 0 1 2 ∷ receive (numberAt x) 60 (numberAt (otherAt x)) 1 ∷ []
 
 guest-returns : (x : Station)
-    → (deskOf (worked stepWith11 (visit x)) x .guest ≡ 1)
-    × (deskOf (worked stepOf (visit x)) x .guest ≡ 1)
+    → (deskOf (reached stepWith11 (visit x)) x .guest ≡ 1)
+    × (deskOf (reached stepOf (visit x)) x .guest ≡ 1)
     × (answers stepWith11 (visit x) (returns (numberAt x) 61 2) ≡ answer.Accepted 1 (wayForm x + 164) Booked)
     × (answers stepOf (visit x) (returns (numberAt x) 61 2) ≡ answer.Accepted 1 (wayForm x + 164) Booked)
 unfolding step-computes stepWith11

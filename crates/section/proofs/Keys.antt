@@ -2,7 +2,7 @@
 -- is below 65536 and so a key tells both sender and form number.
 -- Assumes nothing.
 use Prim.Native.Nat.{_-_, _<_, _≤_, suc, zero, ℕ}
-use Rattle.section.specs.Made.{Keyed, differsFrom, keyOf, lacks, noKey}
+use Rattle.section.specs.Made.{Keyed, differsFrom, lacks, noKey}
 use Rattle.working.specs.WellMade.{same}
 use Rattle.working.specs.declared.Vehicle.{Vehicle}
 use borrow.Author.Tests.{eq-eqb, ne-eqb}

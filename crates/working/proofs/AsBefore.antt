@@ -289,10 +289,8 @@ step-as s bytes g k accepted =
 
 -- ---- the list
 
-abbrev As01 : Section → List Done → Section → Type 0
-As01 s l t = ListAs stepOf01 (followersTwo stepOf01) (λ s bytes. refl) s l t
-
-list-as : {s t : Section} {l : List Done} → Good s → RepliesLastIn s → Run s l t → acceptsBy stepOf01 s l ≡ true → As01 s l t × RepliesLastIn t
+list-as : {s t : Section} {l : List Done} → Good s → RepliesLastIn s → Run s l t → acceptsBy stepOf01 s l ≡ true
+    → ListAs stepOf01 (followersTwo stepOf01) s l t × RepliesLastIn t
 list-as g k stop accepted = (record { each = refl; end = refl }, k)
 list-as {s} g k (next {t = t} {d = d} {l = l} h r) accepted =
     let (first, others) = both (isAccepted (stepOf01 s (d .bytes) .answer)) (acceptsBy stepOf01 (stepOf01 s (d .bytes) .section) l) accepted in
@@ -300,7 +298,7 @@ list-as {s} g k (next {t = t} {d = d} {l = l} h r) accepted =
     let left = step-did d s t h .left in
     let there : t ≡ stepOf01 s (d .bytes) .section = left ∙ ap (λ (z : Stepped). z .section) same in
     let (later, replies-then) = list-as (rw left (good-step s (d .bytes) g)) (rw left replies) r (rw there others) in
-    (next-as stepOf01 (followersTwo stepOf01) (λ s bytes. refl) left same later, replies-then)
+    (next-as left same refl later, replies-then)
 
 -- ---- the theorem
 

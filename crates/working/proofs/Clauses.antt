@@ -4,7 +4,7 @@ use Prim.Native.Nat.{_≤_, ℕ}
 use Rattle.working.proofs.Every.{Every, all-every, every-all}
 use Rattle.working.proofs.Tests.{Each, and, both, each-holds, every-holds}
 use Rattle.working.specs.Entries.{every}
-use Rattle.working.specs.Sections.{deskOf, vehiclesOf, numberAt}
+use Rattle.working.specs.Sections.{deskOf, numberAt, vehiclesOf}
 use Rattle.working.specs.WellMade.{Figure, Range, all, any, countFrom, deskFigures, deskTests, differ, isBlank, isBlankMovement, isFrom, isIdle, isOpener, madeTests}
 use Rattle.working.specs.WellMade.{movementTests, notLater, numbered, ordered, shaped, upTo, vehicleTests, wellMade}
 use Rattle.working.specs.declared.Desk.{Desk}

@@ -1,6 +1,6 @@
 -- T-08, of every list of steps from a fresh section. By the step that had 11 on RETURN: where a RETURN reads 11, no guest stands at that desk (`no-guest-at-11`), and a desk
--- with a guest holds nothing, owes nothing and has nothing waiting (`guests-without-clears-with-11`). By today's step: the same of a desk with a guest
--- (`guests-without-clears`), and every step has the same section and the same answer, but that a RETURN which read 11 reads 14 (`answered-as-with-11`).
+-- with a guest holds nothing, owes nothing and has nothing waiting (`guests-with-11`). By today's step: the same of a desk with a guest
+-- (`guests-today`), and every step has the same section and the same answer, but that a RETURN which read 11 reads 14 (`answered-as-with-11`).
 -- That a desk with a guest has no line clears is a clause of the invariant, GUEST. The two steps differ only at a RETURN whose desk holds a line clear. By GUEST no guest
 -- stands there, so that today's tests come to 14 where those before stopped at 11 (`verdict-as`); by either it is refused, and the section is the same. So the step with 11
 -- on RETURN keeps the invariant as today's does, and what is shown of its lists follows.
@@ -9,6 +9,7 @@ use Prim.Native.Nat.{_+_, _<_, ℕ}
 use Rattle.working.proofs.Changes.{step-is}
 use Rattle.working.proofs.Computing.{step-computes}
 use Rattle.working.proofs.Consequences.{holding, list}
+use Rattle.working.proofs.Demand3.{kept}
 use Rattle.working.proofs.Kept.{Good, good-emptied, good-step, kept-at}
 use Rattle.working.proofs.Lists.{ListAs, done, each-result, next-as, step-did}
 use Rattle.working.proofs.Literals.{opens, receive, returns}
@@ -17,7 +18,7 @@ use Rattle.working.specs.Acts as acts
 use Rattle.working.specs.Document01.{altered, onDecodedBy, returnTests01}
 use Rattle.working.specs.Effects.{effectOf, wayForm}
 use Rattle.working.specs.Events.{At, Bad, Begin, Decoded, Meet, Resume, Says, decode}
-use Rattle.working.specs.Guests.{AnsweredAsWith11, GuestsWithoutClears, NoClears, NoGuestAt11, answerWith14, planWith11, reasonWith14, returnsWith14, saysReturn, stepWith11}
+use Rattle.working.specs.Guests.{AnsweredAsWith11, GuestsToday, GuestsWith11, GuestsWithoutClears, NoGuestAt11, answerWith14, planWith11, reasonWith14, returnsWith14, saysReturn, stepWith11}
 use Rattle.working.specs.Reasons.{departTests, lastTests, returnTests}
 use Rattle.working.specs.Refusals.{Test, firstOf, numberOf, orElse}
 use Rattle.working.specs.Runs.{Done, Run, endBy, next, results, resultsBy, stop}
@@ -45,12 +46,12 @@ use native.Mathlib.Omega.{arith}
 
 -- ---- a desk with a guest
 
-no-clears : (x : Station) (s : Section) → Good s → 0 < deskOf s x .guest → NoClears (deskOf s x)
-no-clears x s g guest = let q = kept-at x s g .own .guests guest in record { holds = q .holds; owes = q .owes; waiting = q .waiting }
+no-clears : (s : Section) → Good s → GuestsWithoutClears s
+no-clears s g x guest = let q = kept-at x s g .own .guests guest in record { holds = q .holds; owes = q .owes; waiting = q .waiting }
 
 -- so where a line clear is held no guest stands
 no-guest : (x : Station) (s : Section) → Good s → 0 < deskOf s x .clears .holds → deskOf s x .guest ≡ 0
-no-guest x s g holds = zero-unless (deskOf s x .guest) (λ guest. omega (arith, no-clears x s g guest .holds))
+no-guest x s g holds = zero-unless (deskOf s x .guest) (λ guest. omega (arith, no-clears s g x guest .holds))
 
 -- ---- what a RETURN reads
 
@@ -131,43 +132,36 @@ step-as s bytes g =
 
 -- ---- the lists
 
-module _ (step : Section → List ℕ → Stepped) (same : (s : Section) (bytes : List ℕ) → Good s → stepOf s bytes .section ≡ step s bytes .section) where
-  good-end : (l : List Done) (s : Section) → Good s → Good (endBy step s l)
-  good-end [] s g = g
-  good-end (d ∷ l) s g = good-end l (step s (d .bytes) .section) (rw (same s (d .bytes) g) at (good-step s (d .bytes) g))
-
-  good-list : (l : List Done) → Good (endBy step fresh l)
-  good-list l = good-end l fresh (good-emptied false noneRefused)
-
-  without-clears : GuestsWithoutClears step
-  without-clears l x guest = no-clears x (endBy step fresh l) (good-list l) guest
-
 same-section : (s : Section) (bytes : List ℕ) → Good s → stepOf s bytes .section ≡ stepWith11 s bytes .section
 same-section s bytes g = ap (λ (r : Stepped). r .section) (step-as s bytes g)
 
+good-end : (l : List Done) (s : Section) → Good s → Good (endBy stepWith11 s l)
+good-end [] s g = g
+good-end (d ∷ l) s g = good-end l (stepWith11 s (d .bytes) .section) (rw (same-section s (d .bytes) g) at (good-step s (d .bytes) g))
+
+good-list : (l : List Done) → Good (endBy stepWith11 fresh l)
+good-list l = good-end l fresh (good-emptied false noneRefused)
+
+list-as : {s t : Section} {l : List Done} → Good s → Run s l t → ListAs stepWith11 (returnsWith14 stepWith11) s l t
+list-as g stop = record { each = refl; end = refl }
+list-as {s} g (next {t = t} {d = d} h r) =
+    let left = step-did d s t h .left in
+    next-as left (step-as s (d .bytes) g) refl (list-as (rw left (good-step s (d .bytes) g)) r)
+
 -- ---- the theorems
-
-pub guests-without-clears : GuestsWithoutClears stepOf
-guests-without-clears = without-clears stepOf (λ s bytes g. refl)
-
-pub guests-without-clears-with-11 : GuestsWithoutClears stepWith11
-guests-without-clears-with-11 = without-clears stepWith11 same-section
 
 pub no-guest-at-11 : NoGuestAt11
 no-guest-at-11 l bytes x time asked granted says reads =
     let s = endBy stepWith11 fresh l in
-    let g = good-list stepWith11 same-section l in
+    let g = good-list l in
     let now = rw (step-with-11-is s bytes (g .sound .well), says) at reads in
     no-guest x s g (eleven-holds (s .force) (deskOf s x) time granted (refused-by s x time asked granted _ HoldsLineClear now))
 
-abbrev As11 : Section → List Done → Section → Type 0
-As11 s l t = ListAs stepWith11 (returnsWith14 stepWith11) (λ s bytes. refl) s l t
+pub guests-with-11 : GuestsWith11
+guests-with-11 l = no-clears (endBy stepWith11 fresh l) (good-list l)
 
-list-as : {s t : Section} {l : List Done} → Good s → Run s l t → As11 s l t
-list-as g stop = record { each = refl; end = refl }
-list-as {s} g (next {t = t} {d = d} h r) =
-    let left = step-did d s t h .left in
-    next-as stepWith11 (returnsWith14 stepWith11) (λ s bytes. refl) left (step-as s (d .bytes) g) (list-as (rw left (good-step s (d .bytes) g)) r)
+pub guests-today : GuestsToday
+guests-today l s run = no-clears s (kept run .good)
 
 pub answered-as-with-11 : AnsweredAsWith11
 answered-as-with-11 l s run = let k = list-as (good-emptied false noneRefused) run in record { each = each-result run ∙ k .each; end = k .end }
@@ -180,11 +174,12 @@ never-eleven : (l : List Done) (bytes : List ℕ) (x : Station) (time asked gran
     decode bytes ≡ Says (At x time (acts.Return asked granted)) → 0 < deskOf s x .guest → stepWith11 s bytes .answer ≡ answer.Refused HoldsLineClear → ⊥
 never-eleven l bytes x time asked granted says guest reads = omega (arith, no-guest-at-11 l bytes x time asked granted says reads)
 
--- his desk has nothing held, owed or waiting, by either step
-nothing-there : (l : List Done) (x : Station)
-    → (let d = deskOf (endBy stepWith11 fresh l) x in 0 < d .guest → d .clears .holds + d .clears .owes + d .waiting ≡ 0)
-    × (let d = deskOf (endBy stepOf fresh l) x in 0 < d .guest → d .clears .holds + d .clears .owes + d .waiting ≡ 0)
-nothing-there l x = (λ guest. omega (arith, guests-without-clears-with-11 l x guest), λ guest. omega (arith, guests-without-clears l x guest))
+-- his desk had nothing held, owed or waiting, and has none today
+nothing-there : (l : List Done) (x : Station) → let d = deskOf (endBy stepWith11 fresh l) x in 0 < d .guest → d .clears .holds + d .clears .owes + d .waiting ≡ 0
+nothing-there l x guest = omega (arith, guests-with-11 l x guest)
+
+nothing-today : {l : List Done} {s : Section} → Run fresh l s → (x : Station) → let d = deskOf s x in 0 < d .guest → d .clears .holds + d .clears .owes + d .waiting ≡ 0
+nothing-today {l} {s} run x guest = omega (arith, guests-today l s run x guest)
 
 -- every answer and every section, and the section at the end
 same-but-14 : {l : List Done} {s : Section} (run : Run fresh l s) → (results run ≡ resultsBy (returnsWith14 stepWith11) fresh l) × (s ≡ endBy stepWith11 fresh l)

@@ -74,19 +74,19 @@ each-result r =
     (λ f s bytes answer t h. let did = step-did (record { form = f; bytes = bytes; answer = answer }) s t h in λ i. record { answer = did .answered i; section = did .left i })
     r
 
--- another step, and one alike it that leaves the same sections: each result of a list is the one's, and the section at its end the other's
-module _ (step alike : Section → List ℕ → Stepped) (sections : (s : Section) (bytes : List ℕ) → alike s bytes .section ≡ step s bytes .section) where
-  pub record ListAs (s : Section) (l : List Done) (t : Section) : Type 0 where
-    pub each : resultsOf s l ≡ resultsBy alike s l
-    pub end : t ≡ endBy step s l
+-- a list by another step: each result is that of `alike`, which leaves the same sections as `step`, and the section at its end is that of `step`
+pub record ListAs (step alike : Section → List ℕ → Stepped) (s : Section) (l : List Done) (t : Section) : Type 0 where
+  pub each : resultsOf s l ≡ resultsBy alike s l
+  pub end : t ≡ endBy step s l
 
-  pub next-as : {s t u : Section} {d : Done} {l : List Done} → t ≡ stepOf s (d .bytes) .section → stepOf s (d .bytes) ≡ alike s (d .bytes) → ListAs t l u → ListAs s (d ∷ l) u
-  next-as {s} {d = d} {l = l} left same later =
-      let there = left ∙ ap (λ (r : Stepped). r .section) same in
-      record {
-        each = ap₂ _∷_ same (ap (λ (z : Section). resultsOf z l) (sym left) ∙ later .each ∙ ap (λ (z : Section). resultsBy alike z l) there);
-        end = later .end ∙ ap (λ (z : Section). endBy step z l) (there ∙ sections s (d .bytes));
-      }
+pub next-as : {step alike : Section → List ℕ → Stepped} {s t u : Section} {d : Done} {l : List Done} → t ≡ stepOf s (d .bytes) .section
+    → stepOf s (d .bytes) ≡ alike s (d .bytes) → alike s (d .bytes) .section ≡ step s (d .bytes) .section → ListAs step alike t l u → ListAs step alike s (d ∷ l) u
+next-as {step} {alike} {s} {d = d} {l = l} left same section later =
+    let there = left ∙ ap (λ (r : Stepped). r .section) same in
+    record {
+      each = ap₂ _∷_ same (ap (λ (z : Section). resultsOf z l) (sym left) ∙ later .each ∙ ap (λ (z : Section). resultsBy alike z l) there);
+      end = later .end ∙ ap (λ (z : Section). endBy step z l) (there ∙ section);
+    }
 
 abbrev pub done : Section → List Todo → List Done
 done s l = doneBy single s l

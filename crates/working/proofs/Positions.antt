@@ -7,10 +7,10 @@ use Rattle.working.proofs.Clauses.{section-made}
 use Rattle.working.proofs.Made.{length-padTo, length-vehicles}
 use Rattle.working.proofs.OwnPlaces.{own-vehicles}
 use Rattle.working.proofs.Tests.{both}
-use Rattle.working.specs.Positions.{ReadThenWritten, SpeedsTold, StepWritten, WrittenThenRead, byteAt, countsBytes, countsIn, deskBytes, deskIn, fourAt, inFour, inTwo}
-use Rattle.working.specs.Positions.{intervalBytes, intervalOf, isFigures, isPosition, minuteOf, movementBytes, movementOf, placesBytes, positionOf, runningOf, sameBytes}
-use Rattle.working.specs.Positions.{sectionAt, speedNumber, twoAt, vehicleBytes, vehicleIn, vehiclesIn}
-use Rattle.working.specs.Sections.{fresh, padTo, vehiclesOf, withVehicles}
+use Rattle.working.specs.Positions.{ReadThenWritten, SpeedsTold, StepWritten, WrittenThenRead, byteAt, countsBytes, countsIn, deskBytes, deskIn}
+use Rattle.working.specs.Positions.{intervalOf, isFigures, isPosition, minuteOf, movementBytes, movementOf, placesBytes, positionOf, runningOf, sameBytes}
+use Rattle.working.specs.Positions.{sectionAt, speedNumber, vehicleBytes, vehicleIn, vehiclesIn}
+use Rattle.working.specs.Sections.{fresh, vehiclesOf, withVehicles}
 use Rattle.working.specs.WellMade.{oneIf, wellMade}
 use Rattle.working.specs.declared.Counts.{Counts}
 use Rattle.working.specs.declared.Desk.{Desk}
@@ -24,9 +24,9 @@ use Rattle.working.specs.declared.Speed.{Speed}
 use Rattle.working.specs.declared.Vehicle.{Vehicle}
 use borrow.Author.Tests.{eq-eqb, eqb-true, le-ltb, ltb-true}
 use lib.Dec.{eqb, ltb}
-use lib.ListN.{drop, getD, length, length-append, length-take, replicate, take}
-use lib.Seq.{drop-append-add, drop-at, drop-drop, getD-append-add}
-use mathlib.Core.Bool.{Bool, _&&_, false, true}
+use lib.ListN.{drop, length, length-append, length-take, replicate, take}
+use lib.Seq.{drop-append-add, getD-append-add}
+use mathlib.Core.Bool.{Bool, false, true}
 use mathlib.Core.List.{List, [], _++_, _∷_, append-assoc}
 use mathlib.Core.Path.{_∙_, _≡_, ap, ap₂, refl, sym}
 use native.Mathlib.Nat.{div-add-mod'}

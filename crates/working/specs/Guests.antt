@@ -1,7 +1,7 @@
 -- T-08, RETURN while line clears are held. Masters with a guest asked what they must do on reading 11 against a RETURN: no list of steps from a fresh section leads there.
 -- The step that had 11 on RETURN stays here as a definition. Of it is shown why the test could go; of today's step, that it differs from this one in nothing but the number
 -- which such a RETURN reads.
--- A list is worked by a step on a section and bytes, so that the forms and the answers which stand in it are not looked at.
+-- A list by that step is worked on sections and bytes, so that the forms and the answers which stand in it are not looked at; a list today is a run, as in demand 3.
 use Prim.Native.Nat.{_<_, ℕ}
 use Rattle.working.specs.Acts as acts
 use Rattle.working.specs.Acts.{Act}
@@ -50,9 +50,16 @@ pub record NoClears (d : Desk) : Type 0 where
   pub owes : d .clears .owes ≡ 0
   pub waiting : d .waiting ≡ 0
 
--- "in every such list a desk with a guest holds nothing and owes nothing": by the step with 11 on RETURN, and by today's
-abbrev pub GuestsWithoutClears : (Section → List ℕ → Stepped) → Type 0
-GuestsWithoutClears step = (l : List Done) (x : Station) → let d = deskOf (endBy step fresh l) x in 0 < d .guest → NoClears d
+-- "a desk with a guest holds nothing and owes nothing", at either station
+abbrev pub GuestsWithoutClears : Section → Type 0
+GuestsWithoutClears s = (x : Station) → 0 < deskOf s x .guest → NoClears (deskOf s x)
+
+-- "in every such list", by the step with 11 on RETURN, and today
+abbrev pub GuestsWith11 : Type 0
+GuestsWith11 = (l : List Done) → GuestsWithoutClears (endBy stepWith11 fresh l)
+
+abbrev pub GuestsToday : Type 0
+GuestsToday = (l : List Done) (s : Section) → Run fresh l s → GuestsWithoutClears s
 
 -- ---- what became of the lists
 

@@ -8,7 +8,7 @@
 --
 -- and what a step makes of it for a host program.
 use Prim.Native.Nat.{_%_, _*_, _+_, _/_, _≤_, suc, zero, ℕ}
-use Rattle.working.specs.Entries.{every, pasted}
+use Rattle.working.specs.Entries.{pasted}
 use Rattle.working.specs.Refusals.{Test, firstOf, numberOf}
 use Rattle.working.specs.Sections.{padTo, vehiclesOf}
 use Rattle.working.specs.Steps.{stepOf}

@@ -7,7 +7,7 @@ use Rattle.working.specs.Refusals.{Test, firstOf}
 use Rattle.working.specs.Sections.{padWith}
 use Rattle.working.specs.declared.Refusal.the-variants.{BufferTooShort, IllMade, NoPosition, ShelfFull, UnknownName}
 use lib.Dec.{eqb, leb, ltb}
-use lib.ListN.{drop, length, replicate, take}
+use lib.ListN.{drop, length, take}
 use mathlib.Core.Bool.{Bool, _&&_, _||_, cond, false, not, true}
 use mathlib.Core.List.{List, [], _++_, _∷_}
 use mathlib.Core.Path.{_≡_}

@@ -7,7 +7,7 @@ use Rattle.working.specs.Positions.{byteAt}
 use borrow.Author.Needs.{needs}
 use lib.ListN.{List·getD-eq-default, length}
 use mathlib.Core.List.{List}
-use mathlib.Core.Path.{_∙_, _≡_}
+use mathlib.Core.Path.{_≡_}
 use native.Mathlib.Omega.{arith}
 
 past : (head : List ℕ) (at : ℕ) → length head ≤ at → byteAt head at ≡ 0

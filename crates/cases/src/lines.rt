@@ -11,7 +11,7 @@ use crate::text::write_figure;
 use crate::text::write_number;
 use crate::text::write_numbers;
 use figures::PRESENT;
-use figures::section_figures;
+use figures::case_bytes;
 use step::Last;
 use step::Ran;
 use working::Answer;
@@ -96,9 +96,9 @@ fn write_read(read: Read) {
     }
 }
 
-// `at`, a position, what a reader reads there, `next`, and where it then stands.
-pub(crate) fn write_seen(position: usize, read: Read, next: usize) {
-    write_figure(b"at", position as u64);
+// `at`, an offset, what a reader reads there, `next`, and where it then stands.
+pub(crate) fn write_seen(offset: usize, read: Read, next: usize) {
+    write_figure(b"at", offset as u64);
     write_read(read);
     write_length(b" next", next);
 }
@@ -116,7 +116,7 @@ pub(crate) fn write_stepped(word: &[u8], after: Stepped) {
     let answer = after.answer;
     write(word);
     write_answer(answer);
-    write_number(digest(&section_figures(s)));
+    write_number(digest(&case_bytes(s)));
     write(b"\n");
 }
 
@@ -135,7 +135,7 @@ pub(crate) fn write_ran(ran: Ran) {
     write_figure(b"run", ran.entries as u64);
     write_number(ran.accepted as u64);
     write_last(last);
-    write_number(digest(&section_figures(s)));
+    write_number(digest(&case_bytes(s)));
     write(b"\n");
 }
 
@@ -149,7 +149,7 @@ fn write_figures(figures: &[u8], used: usize)
 
 // A word and a section's figures, without the unused places behind the last in use.
 pub(crate) fn write_section(word: &[u8], s: Section) {
-    let figures = section_figures(s);
+    let figures = case_bytes(s);
     let used = places_used(&figures);
     write(word);
     write(b" ");

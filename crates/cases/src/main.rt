@@ -1,4 +1,4 @@
-// Runs the stored cases on standard input and writes what came of each: both forms of the step on any section, the reader at any position, and the writer.
+// Runs the stored cases on standard input and writes what came of each: both forms of the step on any section, the reader at any offset, and the writer.
 // docs/CASES.md has the two formats. The second program wrote the cases, and `stdout` is what it says must come of them.
 ghost use Prim.Native.Nat.{_≤_};
 ghost use lib.ListN.{length};
@@ -9,7 +9,7 @@ use figures::number_at;
 use figures::section_in;
 use input::read_case;
 use logs::run_log;
-use logs::run_position;
+use logs::run_offset;
 use steps::run_step;
 use working::Table;
 use written::run_write;
@@ -46,7 +46,7 @@ fn run_case(kind: u8, head: &Head, bytes: &mut [u8])
             number_at(head, 12) as usize,
             entry_in(head),
         ),
-        _ => run_position(table_of(kind), number_at(head, 0) as usize, bytes),
+        _ => run_offset(table_of(kind), number_at(head, 0) as usize, bytes),
     }
 }
 

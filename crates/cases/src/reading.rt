@@ -1,11 +1,11 @@
-// The reader over a lent log, for callers that hold the table, the log and a position.
+// The reader over a lent log, for callers that hold the table, the log and an offset.
 ghost use Rattle.cases.specs.Seen.{seenIn};
 ghost use mathlib.Core.Path.{_≡_};
 use entry::reader::Reader;
 use working::Read;
 use working::Table;
 
-// What readers say of a log: what one made over it reads first, what one at a position reads there, and where that one stands once it is moved on.
+// What readers say of a log: what one made over it reads first, what one at an offset reads there, and where that one stands once it is moved on.
 pub(crate) struct Seen {
     pub first: Read,
     pub here: Read,

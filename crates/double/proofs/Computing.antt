@@ -2,7 +2,7 @@
 -- Assumes nothing.
 use Rattle.double.specs.Steps.{decode, stepOf}
 use Rattle.double.specs.WellMade.{wellMade}
-use Rattle.working.proofs.Computing.{reading-computes}
+use Rattle.working.proofs.examples.Computing.{reading-computes}
 use Rattle.working.specs.Sections.{padWith}
 use Rattle.working.specs.Turns.{turnsFrom}
 

@@ -10,9 +10,9 @@ use Rattle.double.specs.Steps.{Decoded, decode, stepOf}
 use Rattle.double.specs.WellMade.{wellMade}
 use Rattle.double.specs.declared.Section.{Section}
 use Rattle.double.specs.declared.Side.{Side}
-use Rattle.working.proofs.EntryTable.{below}
-use Rattle.working.proofs.Lists.{Todo}
-use Rattle.working.proofs.Literals.{begin, plain, receive, resume}
+use Rattle.working.proofs.examples.EntryTable.{below}
+use Rattle.working.proofs.examples.Literals.{begin, plain, receive, resume}
+use Rattle.working.proofs.laws.Lists.{Todo}
 use Rattle.working.specs.Events.{Bad, Says}
 use Rattle.working.specs.Refusals.{numberOf}
 use Rattle.working.specs.Runs.{Done, byValue}

@@ -2,15 +2,15 @@
 -- The invariant is the equation itself, for the departures and receipts so far; beside it, that the section is well made.
 -- Assumes nothing.
 use Prim.Native.Nat.{ℕ}
-use Rattle.double.proofs.Kept.{Keeps, fresh-made, step-keeps}
 use Rattle.double.proofs.Lists.{each-result, own-run, step-did}
+use Rattle.double.proofs.Preserved.{Keeps, fresh-made, step-keeps}
 use Rattle.double.specs.InOrder.{InOrder, departures, receipts}
 use Rattle.double.specs.Runs.{Run, StepBy}
 use Rattle.double.specs.Sections.{fresh, lineOf, sideOf}
 use Rattle.double.specs.Steps.{decode}
 use Rattle.double.specs.WellMade.{wellMade}
 use Rattle.double.specs.declared.Section.{Section}
-use Rattle.working.specs.Runs.{Done, Form, next, stop}
+use Rattle.working.specs.Runs.{Done, StepForm, next, stop}
 use Rattle.working.specs.Sections.{otherAt, padWith}
 use Rattle.working.specs.declared.Station.the-variants.{A, B}
 use Rattle.working.specs.declared.Station.{Station}
@@ -45,5 +45,5 @@ in-order {l} {s} run = record { each = each-result run; order = order }
     order B = order-run A [] [] fresh-made refl run
 
 -- of a log read from a fresh section, each step handed its own entry's bytes
-pub own-in-order : (f : Form) (log : List ℕ) → InOrder (own-run f fresh log)
+pub own-in-order : (f : StepForm) (log : List ℕ) → InOrder (own-run f fresh log)
 own-in-order f log = in-order (own-run f fresh log)

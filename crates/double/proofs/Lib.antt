@@ -1,7 +1,7 @@
 pub mod Computing
 pub mod Examples
 pub mod InOrder
-pub mod Kept
+pub mod Preserved
 pub mod Lines
 pub mod Lists
 pub mod NeverFive

@@ -6,8 +6,8 @@ use Rattle.double.specs.Sections.{lineOf, side}
 use Rattle.double.specs.Steps.{isFirst}
 use Rattle.double.specs.WellMade.{rising, sideMade, sideTests}
 use Rattle.double.specs.declared.Side.{Side}
-use Rattle.working.proofs.Made.{front-padded}
-use Rattle.working.proofs.Tests.{both, each-holds, every-holds}
+use Rattle.working.proofs.invariant.Made.{front-padded}
+use Rattle.working.proofs.laws.Tests.{both, each-holds, every-holds}
 use Rattle.working.specs.Entries.{every}
 use Rattle.working.specs.Sections.{padWith}
 use Rattle.working.specs.WellMade.{notLater, zeroTests}

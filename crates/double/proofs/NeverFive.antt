@@ -2,17 +2,17 @@
 -- Assumes nothing.
 use Prim.Native.Nat.{ℕ}
 use Rattle.double.proofs.InOrder.{made-run}
-use Rattle.double.proofs.Kept.{fresh-made}
 use Rattle.double.proofs.Lists.{step-did}
+use Rattle.double.proofs.Preserved.{fresh-made}
 use Rattle.double.specs.Runs.{Run, StepBy}
 use Rattle.double.specs.Sections.{fresh}
 use Rattle.double.specs.Steps.{Begin, Decoded, Depart, Event, Receive, Resume, decode, effectOf, eventOf, onDecoded, settled, stepOf, testsOf}
 use Rattle.double.specs.WellMade.{wellMade}
 use Rattle.double.specs.declared.Section.{Section}
 use Rattle.double.specs.declared.Stepped.{Stepped}
-use Rattle.working.proofs.Corollaries.{Fine, FineSaid, fine-said}
-use Rattle.working.proofs.Lists.{split-run}
-use Rattle.working.proofs.Tests.{IsNot, first-is-not, noneIs}
+use Rattle.working.proofs.laws.Lists.{split-run}
+use Rattle.working.proofs.laws.Tests.{IsNot, first-is-not, noneIs}
+use Rattle.working.proofs.theorems.Corollaries.{Fine, FineSaid, fine-said}
 use Rattle.working.specs.Events.{Bad, Says}
 use Rattle.working.specs.Refusals.{firstOf}
 use Rattle.working.specs.Runs.{Done, next}

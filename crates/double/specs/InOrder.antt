@@ -3,7 +3,7 @@
 use Prim.Native.Nat.{ℕ}
 use Rattle.double.specs.Runs.{Run, results, resultsOf}
 use Rattle.double.specs.Sections.{fresh, lineOf, sideOf}
-use Rattle.double.specs.Steps.{Begin, Decoded, Depart, Event, Receive, Resume, decode, same}
+use Rattle.double.specs.Steps.{Begin, Decoded, Depart, Event, Receive, Resume, decode, sameStation}
 use Rattle.double.specs.declared.Section.{Section}
 use Rattle.working.specs.Events.{Bad, Says}
 use Rattle.working.specs.Runs.{Done}
@@ -18,7 +18,7 @@ use mathlib.Core.Path.{_≡_}
 -- what an accepted entry makes of the form numbers l of x's departures since BEGIN, its answer's form being n
 abbrev pub departing : Station → ℕ → Event → List ℕ → List ℕ
 departing x n Begin l = []
-departing x n (Depart y time) l = cond (same x y) (l ++ n ∷ []) l
+departing x n (Depart y time) l = cond (sameStation x y) (l ++ n ∷ []) l
 departing x n (Receive y time sender form) l = l
 departing x n Resume l = l
 
@@ -26,7 +26,7 @@ departing x n Resume l = l
 abbrev pub receiving : Station → Event → List ℕ → List ℕ
 receiving x Begin l = []
 receiving x (Depart y time) l = l
-receiving x (Receive y time sender form) l = cond (same x y) (l ++ form ∷ []) l
+receiving x (Receive y time sender form) l = cond (sameStation x y) (l ++ form ∷ []) l
 receiving x Resume l = l
 
 -- a refused entry leaves both

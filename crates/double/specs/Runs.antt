@@ -3,7 +3,7 @@ use Prim.Native.Nat.{ℕ}
 use Rattle.double.specs.Steps.{stepOf}
 use Rattle.double.specs.declared.Section.{Section}
 use Rattle.double.specs.declared.Stepped.{Stepped}
-use Rattle.working.specs.Runs.{Done, Form, RunBy, byValue, inPlace, resultsOver, resultsWith}
+use Rattle.working.specs.Runs.{Done, RunBy, StepForm, byValue, inPlace, resultsOver, resultsWith}
 use Rattle.working.specs.declared.Answer.{Answer}
 use mathlib.Core.List.{List}
 use mathlib.Core.Path.{_≡_}
@@ -15,7 +15,7 @@ StepReturns s bytes r = r ≡ stepOf s bytes
 abbrev pub StepLeaves : Section → List ℕ → Answer → Section → Type 0
 StepLeaves s bytes answer t = (answer ≡ stepOf s bytes .answer) × (t ≡ stepOf s bytes .section)
 
-abbrev pub StepBy : Form → Section → List ℕ → Answer → Section → Type 0
+abbrev pub StepBy : StepForm → Section → List ℕ → Answer → Section → Type 0
 StepBy byValue s bytes answer t = StepReturns s bytes (record { answer = answer; section = t })
 StepBy inPlace s bytes answer t = StepLeaves s bytes answer t
 

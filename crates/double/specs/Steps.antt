@@ -57,8 +57,8 @@ decode bytes = decodedAs (readAt DoubleLine bytes 0)
 
 -- ---- refusals
 
-abbrev pub same : Station → Station → Bool
-same x y = eqb (numberAt x) (numberAt y)
+abbrev pub sameStation : Station → Station → Bool
+sameStation x y = eqb (numberAt x) (numberAt y)
 
 -- n is the first of a line
 abbrev pub isFirst : ℕ → List ℕ → Bool
@@ -67,7 +67,7 @@ isFirst n (m ∷ l) = eqb m n
 
 -- a RECEIVE: "20 for any arrival but the first still on it", the line of O
 abbrev pub receiveTests : Section → Station → Station → ℕ → List Test
-receiveTests s x sender form = (not (same sender (otherAt x) && isFirst form (lineOf (sideOf s (otherAt x)))), NotNearest) ∷ []
+receiveTests s x sender form = (not (sameStation sender (otherAt x) && isFirst form (lineOf (sideOf s (otherAt x)))), NotNearest) ∷ []
 
 abbrev pub testsOf : Section → Event → List Test
 testsOf s Begin = beginTests (s .force)  -- 6

@@ -5,9 +5,9 @@ use Prim.Native.Nat.{_+_, _-_, _<_, ℕ}
 use Rattle.entering.specs.Entering.{Declares, Does, Enters, Leaves, Refuses, startIfAnew}
 use Rattle.words.proofs.Becoming.{becomes-as, becomes-then, desk-length, desk-then}
 use Rattle.words.specs.Words.{Becomes, DeskBecomes, Met, VehiclesBecome, sectionIn, startIn, startOn, withClears, withDeparture, withGuest, withOut, withReceipt}
-use Rattle.working.proofs.Reasons.{last-passes}
-use Rattle.working.proofs.Scans.{first-passes, first-refuses}
-use Rattle.working.proofs.Tests.{none-holds, none-of-both}
+use Rattle.working.proofs.laws.Reasons.{last-passes}
+use Rattle.working.proofs.laws.Scans.{first-passes, first-refuses}
+use Rattle.working.proofs.laws.Tests.{none-holds, none-of-both}
 use Rattle.working.specs.Acts as acts
 use Rattle.working.specs.Acts.{Act}
 use Rattle.working.specs.Effects.{Plan, broughtClears, effectOf, nextForm, openedClears, otherDesk, ownDesk, vehicleFor}

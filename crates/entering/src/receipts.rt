@@ -1,12 +1,12 @@
-// RECEIVE: a vehicle is taken at the station's end, and the figures change by whose it is and what it left on; then by the reply that it brings, and by what waits.
+// RECEIVE: a vehicle is received at the station's end, and the figures change by whose it is and what it left on; then by the reply that it brings, and by what waits.
 ghost use Rattle.entering.specs.Entering.{Enters};
 ghost use Rattle.words.specs.Words.{DeskBecomes, sectionIn};
 ghost use Rattle.working.specs.Acts as acts;
-ghost use Rattle.working.specs.Effects.{arriveDesk, otherDesk, ownDesk, replied, takenDesk};
+ghost use Rattle.working.specs.Effects.{arriveDesk, otherDesk, ownDesk, receiptDesk, replied};
 ghost use Rattle.working.specs.Events.{At, stationOf};
-ghost use Rattle.working.specs.WellMade.{isOpener};
 ghost use Rattle.working.specs.Reasons.{mayEnter};
 ghost use Rattle.working.specs.Sections.{deskOf};
+ghost use Rattle.working.specs.WellMade.{isOpenOrThrough};
 ghost use mathlib.Core.Bool.{true};
 ghost use mathlib.Core.Path.{_≡_};
 use crate::answers::accepted;
@@ -41,7 +41,7 @@ use working::Whose;
 
 // The desk of station `at`, which is `d`, where its own vehicle is back: an OPEN or a THROUGH, since no other may enter.
 fn arrive_own(words: &mut Words, at: Station, time: u16, d: Desk, movement: Movement)
-    requires { ⌜ (d ≡ deskOf (sectionIn (now words)) at) × (isOpener movement ≡ true) ⌝ }
+    requires { ⌜ (d ≡ deskOf (sectionIn (now words)) at) × (isOpenOrThrough movement ≡ true) ⌝ }
     ensures { λ _. ⌜ DeskBecomes (now (words .entry)) (now (words .exit)) at (λ desk. ownDesk desk time movement) ⌝ }
 {
     put_receipt(words, at, time, lowered(d.sent));
@@ -94,10 +94,10 @@ fn arrive_other(words: &mut Words, at: Station, time: u16, d: Desk, v: Vehicle)
     }
 }
 
-// The desk of station `at`, which is `d`, where a vehicle that may enter is taken, but for the reply that it brings.
+// The desk of station `at`, which is `d`, where a vehicle that may enter is received, but for the reply that it brings.
 fn take_in(words: &mut Words, at: Station, time: u16, d: Desk, v: Vehicle)
     requires { ⌜ (d ≡ deskOf (sectionIn (now words)) at) × (mayEnter at v ≡ true) ⌝ }
-    ensures { λ _. ⌜ DeskBecomes (now (words .entry)) (now (words .exit)) at (λ desk. takenDesk at desk time v) ⌝ }
+    ensures { λ _. ⌜ DeskBecomes (now (words .entry)) (now (words .exit)) at (λ desk. receiptDesk at desk time v) ⌝ }
 {
     let movement = v.movement;
     if v.sender == station_number(at) {
@@ -119,7 +119,7 @@ fn put_reply(words: &mut Words, at: Station, granted: u8)
     }
 }
 
-// The desk of station `at`, which is `d`, where a vehicle that may enter is taken.
+// The desk of station `at`, which is `d`, where a vehicle that may enter is received.
 fn arrive(words: &mut Words, at: Station, time: u16, d: Desk, v: Vehicle)
     requires { ⌜ (d ≡ deskOf (sectionIn (now words)) at) × (mayEnter at v ≡ true) ⌝ }
     ensures { λ _. ⌜ DeskBecomes (now (words .entry)) (now (words .exit)) at (λ desk. arriveDesk at desk time v) ⌝ }

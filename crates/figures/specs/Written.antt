@@ -26,8 +26,8 @@ putPlaces zero places room = room
 putPlaces (suc count) places room = putAt (putPlaces count places room) (count * 10) (vehicleFigures (getD places count unused))
 
 -- the bytes of a section, each where `sectionIn` reads it
-unfoldable pub sectionFigures : Section → List ℕ
-sectionFigures s =
+unfoldable pub caseBytes : Section → List ℕ
+caseBytes s =
     let placed = putPlaces 24 (s .vehicles) (replicate sectionLength 0) in
     let present = putAt placed 240 (s .len % 256 ∷ oneIf (s .force) ∷ []) in
     putAt (putAt (putAt present 242 (countsBytes (s .refused))) 254 (deskBytes (s .a))) 268 (deskBytes (s .b))

@@ -14,7 +14,7 @@ pub use heads::Head;
 pub use heads::LONGEST_HEAD;
 pub use heads::SECTION_LENGTH;
 pub use heads::number_at;
-pub use section_written::section_figures;
+pub use section_written::case_bytes;
 pub use sections::PRESENT;
 pub use sections::entry_in;
 pub use sections::section_in;

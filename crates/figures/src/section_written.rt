@@ -1,5 +1,5 @@
 // A single line's section as the bytes of docs/CASES.md, well made or not.
-ghost use Rattle.figures.specs.Written.{putPlaces, sectionFigures, vehicleFigures};
+ghost use Rattle.figures.specs.Written.{caseBytes, putPlaces, vehicleFigures};
 ghost use Rattle.working.specs.Positions.{vehicleBytes};
 ghost use Rattle.working.specs.WellMade.{isBlank};
 ghost use mathlib.Core.Path.{_≡_};
@@ -49,8 +49,8 @@ fn put_vehicles(room: &mut [u8], places: [Vehicle; Section::PLACES])
 }
 
 // The section's figures, each where `section_in` reads it.
-pub fn section_figures(s: Section) -> [u8; SECTION_LENGTH]
-    ensures { λ r. ⌜ r ≡ sectionFigures s ⌝ }
+pub fn case_bytes(s: Section) -> [u8; SECTION_LENGTH]
+    ensures { λ r. ⌜ r ≡ caseBytes s ⌝ }
 {
     let mut figures = [0u8; SECTION_LENGTH];
     let places = s.vehicles;

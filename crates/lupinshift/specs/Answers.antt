@@ -30,12 +30,12 @@ abbrev pub Lists : List ℕ → List ℕ → ℕ → List ℕ → Type 0
 Lists log out = Gives (ltb (length out) (listingRoom (length log))) (listingOf SingleLine log) out
 
 -- the figures of a log's last line
-abbrev pub figuresOf : List ℕ → List ℕ
-figuresOf log = figuresIn SingleLine fresh (turnsOf single fresh log)
+abbrev pub lastFiguresOf : List ℕ → List ℕ
+lastFiguresOf log = figuresIn SingleLine fresh (turnsOf single fresh log)
 
 -- the last line of its listing
 abbrev pub lastLineOf : List ℕ → List ℕ
-lastLineOf log = lastLine (length log) (figuresOf log)
+lastLineOf log = lastLine (length log) (lastFiguresOf log)
 
 -- the last line, where the buffer has room for the longest
 abbrev pub Ends : List ℕ → List ℕ → ℕ → List ℕ → Type 0
@@ -43,14 +43,14 @@ Ends log out = Gives (ltb (length out) longestLine) (lastLineOf log) out
 
 -- the figures, where there are as many places and the log is not too long: the last line of a longer log has none
 abbrev pub Figures : List ℕ → List ℕ → ℕ → List ℕ → Type 0
-Figures log figures = Gives (ltb longestLog (length log) || ltb (length figures) endFigureCount) (figuresOf log) figures
+Figures log figures = Gives (ltb longestLog (length log) || ltb (length figures) endFigureCount) (lastFiguresOf log) figures
 
 -- the last line and the figures are those of the listing: it ends in the one, whatever the log's length, and that is `end` and the others where the log is not too long
 abbrev pub EndsTheListing : Type 0
 EndsTheListing = (log : List ℕ) → listingOf SingleLine log ≡ joined (linesOf 0 (listedTurns SingleLine log)) ++ lastLineOf log
 
 abbrev pub FiguresInTheEnd : Type 0
-FiguresInTheEnd = (log : List ℕ) → length log ≤ longestLog → lastLineOf log ≡ endLine (figuresOf log)
+FiguresInTheEnd = (log : List ℕ) → length log ≤ longestLog → lastLineOf log ≡ endLine (lastFiguresOf log)
 
 -- ---- the last answer
 
@@ -60,5 +60,5 @@ lastOf NoEntry = 0
 lastOf (Answered a) = refusalOf a
 
 -- the number that answers a log's last entry
-abbrev pub answerOf : List ℕ → ℕ
-answerOf log = lastOf (lastIn NoEntry (turnsOf single fresh log))
+abbrev pub lastAnswerOf : List ℕ → ℕ
+lastAnswerOf log = lastOf (lastIn NoEntry (turnsOf single fresh log))

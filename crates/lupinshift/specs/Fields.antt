@@ -21,21 +21,21 @@ abbrev pub fieldsOf : Entry → List ℕ
 fieldsOf e = e .map ∷ valuesOf e
 
 -- a field of one byte; a number that is none is taken for 255, which no field of one byte allows
-abbrev pub byteOf : List ℕ → ℕ → ℕ
-byteOf fields i = min (getD fields i 0) 255
+abbrev pub byteField : List ℕ → ℕ → ℕ
+byteField fields i = min (getD fields i 0) 255
 
 -- the entry that ten numbers say
 unfoldable pub entryFrom : List ℕ → Entry
 entryFrom fields = record {
-  map = byteOf fields 0;
-  kind = byteOf fields 1;
-  station = byteOf fields 2;
+  map = byteField fields 0;
+  kind = byteField fields 1;
+  station = byteField fields 2;
   time = getD fields 3 0;
-  view = byteOf fields 4;
-  class = byteOf fields 5;
-  asked = byteOf fields 6;
-  granted = byteOf fields 7;
-  sender = byteOf fields 8;
+  view = byteField fields 4;
+  class = byteField fields 5;
+  asked = byteField fields 6;
+  granted = byteField fields 7;
+  sender = byteField fields 8;
   number = getD fields 9 0;
 }
 

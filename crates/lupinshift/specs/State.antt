@@ -17,7 +17,7 @@ use mathlib.Core.Bool.{false, true}
 use mathlib.Core.List.{List, [], _++_, _∷_}
 use mathlib.Core.Path.{_≡_}
 
--- the words of the section, then the position, the entries that may come, entries, accepted, and whether it has ended
+-- the words of the section, then the offset, the entries that may come, entries, accepted, and whether it has ended
 abbrev pub stateWords : ℕ
 stateWords = wordCount + 5
 
@@ -38,20 +38,20 @@ abbrev pub figureWords : Listed → List ℕ
 figureWords p = p .at ∷ p .left ∷ p .entries ∷ p .accepted ∷ oneIf (p .ended) ∷ []
 
 -- words that now stand for a listing, as many as before: behind the section's the five are the listing's figures, and those behind keep their values
-pub record Holds (l : Listing Section) (words after : List ℕ) : Type 0 where
+pub record StandsFor (l : Listing Section) (words after : List ℕ) : Type 0 where
   pub listing : listingAt after ≡ l
   pub figures : drop wordCount after ≡ figureWords (listedOf l) ++ drop stateWords words
   pub size : length after ≡ length words
 
 -- those of a section put in front, and its listing's figures
 pub record Keeps (section : List ℕ) (p : Listed) (words after : List ℕ) : Type 0 where
-  pub holds : Holds (listingIn p (sectionIn section)) words after
+  pub holds : StandsFor (listingIn p (sectionIn section)) words after
   pub front : take wordCount after ≡ section
 
 -- the start of a log's listing, in the fresh section's own words, and how many it takes
 pub record BeginsIn (log words : List ℕ) (r : ℕ) (after : List ℕ) : Type 0 where
   pub count : r ≡ stateWords
-  pub state : Holds (begun SingleLine log) words after
+  pub state : StandsFor (begun SingleLine log) words after
   pub own : take wordCount after ≡ wordsOf fresh 0
 
 -- or, where there are fewer, 0 and nothing altered
@@ -68,7 +68,7 @@ blockAt words log room = blockOf SingleLine log (listingAt words) room
 pub record FillsFrom (words log out : List ℕ) (r : ℕ) (words₁ out₁ : List ℕ) : Type 0 where
   pub count : r ≡ length (blockAt words log (length out) .text)
   pub left : out₁ ≡ pasted out 0 (blockAt words log (length out) .text)
-  pub state : Holds (blockAt words log (length out) .listing) words words₁
+  pub state : StandsFor (blockAt words log (length out) .listing) words words₁
   pub section : Behind SingleLine (take wordCount words) (blockAt words log (length out) .turns) (take wordCount words₁)
   pub kept : wellMade (listingAt words .section) ≡ false → take wordCount words₁ ≡ take wordCount words
 
@@ -80,15 +80,15 @@ pub record FillsOn (words log out : List ℕ) (r : ℕ) (words₁ out₁ : List 
 -- ---- the calls together
 
 -- the texts that calls leave one after another, whatever the length of each buffer, from some words to those at which the listing has ended
-pub data Calls : List ℕ → List ℕ → List ℕ → Type 0 where
-  no-more : {log words : List ℕ} → listingAt words .ended ≡ true → Calls log words []
-  fill : {log words out words₁ out₁ more : List ℕ} {r : ℕ} → stateWords ≤ length words → FillsOn words log out r words₁ out₁ → Calls log words₁ more
-      → Calls log words (take r out₁ ++ more)
+pub data Fillings : List ℕ → List ℕ → List ℕ → Type 0 where
+  no-more : {log words : List ℕ} → listingAt words .ended ≡ true → Fillings log words []
+  fill : {log words out words₁ out₁ more : List ℕ} {r : ℕ} → stateWords ≤ length words → FillsOn words log out r words₁ out₁ → Fillings log words₁ more
+      → Fillings log words (take r out₁ ++ more)
 
 -- from a start in enough words they are together the listing of the log
-abbrev pub CallsAreListing : Type 0
-CallsAreListing = (log words words₁ text : List ℕ) (r : ℕ) → length log < largestCount → stateWords ≤ length words
-    → Begins log words r words₁ → Calls log words₁ text → text ≡ listingOf SingleLine log
+abbrev pub FillingsAreListing : Type 0
+FillingsAreListing = (log words words₁ text : List ℕ) (r : ℕ) → length log < largestCount → stateWords ≤ length words
+    → Begins log words r words₁ → Fillings log words₁ text → text ≡ listingOf SingleLine log
 
 -- a call with enough words and room for a line answers 0 only where the listing has ended
 abbrev pub NoneMore : Type 0

@@ -1,7 +1,7 @@
 // Functions for a host in C or Rust. On a single line's log: its listing, whole or in blocks, its last line alone, as text and as figures, the answer to its last entry, and
 // how many of its entries are taken; where such a call is refused the answer is 0. On a single line's section as a position: a step, a shelf of named positions, and entries
 // as fields; there the answer is 0 or the number of the refusal. Slices of bytes and numbers only; host/lupinshift.h declares them. No refused call alters a lent place.
-ghost use Rattle.lupinshift.specs.Answers.{Ends, Figures, Lists, answerOf, lastOf};
+ghost use Rattle.lupinshift.specs.Answers.{Ends, Figures, Lists, lastAnswerOf, lastOf};
 ghost use Rattle.lupinshift.specs.State.{Begins, FillsOn};
 ghost use Rattle.step.specs.Listings.{listingRoom};
 ghost use Rattle.working.specs.Positions.{refusalOf};
@@ -136,7 +136,7 @@ fn last_of(last: Last) -> u32
 // The number of the refusal that answers the last entry of a log, and 0 where that is accepted or the log has no entry. A log of any length is run.
 #[no_mangle]
 pub extern "C" fn lupin_answer(log: &[u8]) -> u32
-    ensures { λ r. ⌜ r ≡ answerOf (now (log .entry)) ⌝ }
+    ensures { λ r. ⌜ r ≡ lastAnswerOf (now (log .entry)) ⌝ }
 {
     let end = step::ended(log);
     let last = end.last;

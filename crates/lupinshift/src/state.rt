@@ -10,7 +10,7 @@ use step::Listed;
 use words::WORDS;
 use words::Words;
 
-// Behind the section's words the position, how many entries may come, entries, accepted, and whether the listing has ended.
+// Behind the section's words the offset, how many entries may come, entries, accepted, and whether the listing has ended.
 const AT: usize = WORDS;
 
 const LEFT: usize = AT + 1;

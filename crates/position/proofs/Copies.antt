@@ -1,7 +1,7 @@
 -- Bytes copied into an array, or put at a place; and two slices compared byte by byte.
 -- Assumes nothing.
 use Prim.Native.Nat.{_+_, _<_, _≤_, suc, zero, ℕ}
-use Rattle.working.proofs.Positions.{read-then-written, same-bytes}
+use Rattle.working.proofs.theorems.Positions.{read-then-written, same-bytes}
 use Rattle.working.specs.Entries.{pasted}
 use Rattle.working.specs.Positions.{isPosition, sameBytes}
 use lib.Dec.{eqb}

@@ -2,7 +2,7 @@
 -- Assumes nothing.
 use Prim.Native.Nat.{_*_, _+_, _-_, _<_, _≤_, suc, zero, ℕ}
 use Rattle.position.proofs.Copies.{paste-behind}
-use Rattle.working.proofs.Made.{vehicles-with}
+use Rattle.working.proofs.invariant.Made.{vehicles-with}
 use Rattle.working.specs.Entries.{pasted}
 use Rattle.working.specs.Positions.{byteAt, countsBytes, deskBytes, placesBytes, sectionAt, vehicleBytes, vehicleIn, vehiclesIn}
 use Rattle.working.specs.Sections.{unused, vehiclesOf, withVehicles}

@@ -1,8 +1,8 @@
 // A section as 281 bytes, and the section that they say.
 ghost use Prim.Native.Nat.{_*_, _+_, _≤_};
 ghost use Rattle.position.specs.Reading.{Reads};
-ghost use Rattle.working.specs.Positions.{countsIn, deskIn, isPosition, placesBytes, positionOf, sectionAt, vehicleIn, vehiclesIn};
 ghost use Rattle.words.specs.Words.{sectionIn};
+ghost use Rattle.working.specs.Positions.{countsIn, deskIn, isPosition, placesBytes, positionOf, sectionAt, vehicleIn, vehiclesIn};
 ghost use Rattle.working.specs.Sections.{padTo, vehiclesOf};
 ghost use lib.ListN.{drop, length, replicate, take};
 ghost use mathlib.Core.List.{_++_};

@@ -5,7 +5,7 @@ ghost use Rattle.working.specs.Refusals.{Test, firstOf};
 ghost use mathlib.Core.List.{List, _++_};
 ghost use mathlib.Core.Path.{_≡_};
 use section::is_named;
-use section::is_opener;
+use section::is_open_or_through;
 use section::station_number;
 use working::Clears;
 use working::Desk;
@@ -126,7 +126,7 @@ fn may_enter(at: Station, v: Vehicle) -> bool
     let movement = v.movement;
     let here = v.heading == number;
     if v.sender == number {
-        is_opener(movement) & (!v.met | here)
+        is_open_or_through(movement) & (!v.met | here)
     } else {
         here
     }

@@ -3,7 +3,7 @@
 -- Assumes nothing.
 use Prim.Native.Nat.{_-_, _<_, _≤_, suc, zero, ℕ}
 use Rattle.section.specs.Made.{Keyed, differsFrom, lacks, noKey}
-use Rattle.working.specs.WellMade.{same}
+use Rattle.working.specs.WellMade.{sameForm}
 use Rattle.working.specs.declared.Vehicle.{Vehicle}
 use borrow.Author.Tests.{eq-eqb, ne-eqb}
 use lib.Dec.{eqb}
@@ -23,10 +23,10 @@ pub record Noted (l : List Vehicle) (keys : List ℕ) (i : ℕ) : Type 0 where
 
 -- ---- a key tells its vehicle
 
-one-key : (v w : Vehicle) (m n : ℕ) → Keyed v n → Keyed w m → eqb m n ≡ same v w
+one-key : (v w : Vehicle) (m n : ℕ) → Keyed v n → Keyed w m → eqb m n ≡ sameForm v w
 one-key v w m n of-v of-w = by (ℕ-discrete (v .sender) (w .sender)) (ℕ-discrete (v .form) (w .form))
   where
-    by : Dec (v .sender ≡ w .sender) → Dec (v .form ≡ w .form) → eqb m n ≡ same v w
+    by : Dec (v .sender ≡ w .sender) → Dec (v .form ≡ w .form) → eqb m n ≡ sameForm v w
     by (yes p) (yes q) = rw (eq-eqb m n (omega arith), eq-eqb (v .sender) (w .sender) p, eq-eqb (v .form) (w .form) q)
     by (yes p) (no q) = rw (ne-eqb m n (λ e. q (omega arith)), ne-eqb (v .form) (w .form) q, and-false)
     by (no p) q = rw (ne-eqb m n (λ e. p (omega arith)), ne-eqb (v .sender) (w .sender) p)

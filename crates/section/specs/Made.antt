@@ -3,7 +3,7 @@ use Prim.Native.Nat.{_*_, _+_, _<_, ℕ}
 use Rattle.section.specs.declared.made.Survey.{Survey}
 use Rattle.section.specs.declared.made.Tally.{Tally}
 use Rattle.working.specs.Entries.{every}
-use Rattle.working.specs.WellMade.{all, countFrom, deskFigures, isBlank, isFrom, movementTests, notLater, numbered, oneIf, ordered, rangeTests, same, shaped, zeroTests}
+use Rattle.working.specs.WellMade.{all, countFrom, deskFigures, figureTests, isBlank, isFrom, movementTests, notLater, numbered, oneIf, ordered, sameForm, shaped, zeroTests}
 use Rattle.working.specs.declared.Desk.{Desk}
 use Rattle.working.specs.declared.Movement.{Movement}
 use Rattle.working.specs.declared.Vehicle.{Vehicle}
@@ -22,7 +22,7 @@ allBlank l = all isBlank l
 
 -- v differs from each of l in sender or form number
 abbrev pub differsFrom : Vehicle → List Vehicle → Bool
-differsFrom v l = all (λ w. not (same v w)) l
+differsFrom v l = all (λ w. not (sameForm v w)) l
 
 -- ---- keys: sender and form number in one number
 
@@ -80,7 +80,7 @@ pub record Room (s : Survey) : Type 0 where
 -- ---- a desk beside its tally
 
 abbrev pub deskMadeWith : Desk → Tally → Bool
-deskMadeWith d t = every (rangeTests (deskFigures d) ++ leb (t .count) (d .sent) ∷ notLater (d .interval) (d .clock) ∷ t .numbered ∷ [])
+deskMadeWith d t = every (figureTests (deskFigures d) ++ leb (t .count) (d .sent) ∷ notLater (d .interval) (d .clock) ∷ t .numbered ∷ [])
 
 -- "all else is zero or none"
 abbrev pub allZero : List ℕ → Bool

@@ -11,4 +11,4 @@ pub use stations::station_number;
 pub use stations::station_of;
 pub use vehicles::fitting;
 pub use vehicles::is_named;
-pub use vehicles::is_opener;
+pub use vehicles::is_open_or_through;

@@ -2,7 +2,7 @@
 ghost use Prim.Native.Nat.{min};
 ghost use Rattle.section.specs.Made.{movementMade};
 ghost use Rattle.working.specs.Reasons.{isNamed};
-ghost use Rattle.working.specs.WellMade.{isBlank, isBlankMovement, isOpener, shaped};
+ghost use Rattle.working.specs.WellMade.{isBlank, isBlankMovement, isOpenOrThrough, shaped};
 ghost use mathlib.Core.Path.{_≡_};
 use crate::stations::station_number;
 use working::Desk;
@@ -12,8 +12,8 @@ use working::Station;
 use working::Vehicle;
 
 // OPEN or THROUGH.
-pub fn is_opener(movement: Movement) -> bool
-    ensures { λ r. ⌜ r ≡ isOpener movement ⌝ }
+pub fn is_open_or_through(movement: Movement) -> bool
+    ensures { λ r. ⌜ r ≡ isOpenOrThrough movement ⌝ }
 {
     match movement {
         Movement::Open { asked: _ } => true,
@@ -70,7 +70,7 @@ pub(crate) fn is_shaped(v: Vehicle) -> bool
     let sent = (v.sender == 1) | (v.sender == 2);
     let headed = (v.heading == 1) | (v.heading == 2);
     let away = v.met | !(v.heading == v.sender);
-    let unmet = is_opener(movement) | !v.met;
+    let unmet = is_open_or_through(movement) | !v.met;
     sent & headed & away & unmet & movement_made(movement, v.class)
 }
 

@@ -1,7 +1,7 @@
 -- What the tests of a store and of a fetch say of what is lent, and the bytes that a fetch copies.
 -- Assumes nothing.
 use Prim.Native.Nat.{_*_, _+_, _≤_, ℕ}
-use Rattle.working.proofs.Tests.{both}
+use Rattle.working.proofs.laws.Tests.{both}
 use Rattle.working.specs.Entries.{pasted}
 use Rattle.working.specs.Shelves.{isName, isShelf, placeFor, placeNamed, placesMade, positionIn, titleOf}
 use borrow.Author.Tests.{eqb-true, leb-true, not-false, not-true}

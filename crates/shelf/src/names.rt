@@ -1,6 +1,6 @@
 // Names: 1 to 12 capital letters; and a name as it stands in a place, with zeros to 12, its title.
-ghost use Rattle.working.specs.Shelves.{isLetter, isName, isTitle, isZero, lettersIn, titleOf};
 ghost use Prim.Native.Nat.{_≤_};
+ghost use Rattle.working.specs.Shelves.{isLetter, isName, isTitle, isZero, lettersIn, titleOf};
 ghost use lib.ListN.{length};
 ghost use mathlib.Core.Path.{_≡_};
 use bytes::copy;

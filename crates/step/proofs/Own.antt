@@ -2,16 +2,16 @@
 -- for it.
 -- Assumes nothing.
 use Prim.Native.Nat.{ℕ}
-use Rattle.double.proofs.Kept as doubleKept
 use Rattle.double.proofs.Lines as doubleLines
+use Rattle.double.proofs.Preserved as doubleKept
 use Rattle.double.specs.WellMade as doubleMade
 use Rattle.double.specs.declared.Section as doubleSection
 use Rattle.double.specs.declared.Side.{Side}
-use Rattle.lines.specs.Lines.{trimmed, trimmedSide}
+use Rattle.doubleentering.specs.DoubleWords.{trimmed, trimmedSide}
 use Rattle.words.specs.Words.{OwnWords, sectionIn, vehiclesIn}
-use Rattle.working.proofs.Made.{length-padTo}
-use Rattle.working.proofs.OwnPlaces.{Each, padded}
-use Rattle.working.proofs.Tests.{both}
+use Rattle.working.proofs.invariant.Made.{length-padTo}
+use Rattle.working.proofs.laws.OwnPlaces.{Each, padded}
+use Rattle.working.proofs.laws.Tests.{both}
 use Rattle.working.specs.Entries.{every}
 use Rattle.working.specs.WellMade.{wellMade, zeroTests}
 use Rattle.working.specs.declared.Section.{Section}

@@ -1,8 +1,8 @@
 -- One change of the words after another: what the second makes of the words that the first left, it makes of them before the first.
 -- Assumes nothing.
 use Prim.Native.Nat.{_≤_, ℕ}
-use Rattle.words.specs.Words.{Becomes, DeskBecomes, VehiclesBecome, OwnWords, sectionIn, startIn, wordsOf}
-use Rattle.working.proofs.Made.{vehicles-with}
+use Rattle.words.specs.Words.{Becomes, DeskBecomes, OwnWords, VehiclesBecome, sectionIn, startIn, wordsOf}
+use Rattle.working.proofs.invariant.Made.{vehicles-with}
 use Rattle.working.specs.Sections.{deskOf, vehiclesOf, withDesk, withVehicles}
 use Rattle.working.specs.declared.Desk.{Desk}
 use Rattle.working.specs.declared.Section.{Section}

@@ -2,17 +2,17 @@
 -- Assumes nothing.
 use Prim.Native.Nat.{_%_, _*_, _+_, _-_, _<_, _≤_, ℕ}
 use Rattle.words.proofs.Becoming.{becomes-as, vehicles-then}
-use Rattle.words.proofs.VehiclesIn.{Stored, vehicles-at, vehicles-become, vehicles-fit, vehicles-of, pad-any, present-length, slot-at}
 use Rattle.words.proofs.Packing.{vehicle-back}
-use Rattle.words.proofs.Round.{Moves, enters-moves, leaves-moves, remove-length, meets-moves}
+use Rattle.words.proofs.Round.{Moves, enters-moves, leaves-moves, meets-moves, remove-length}
 use Rattle.words.proofs.Slots.{slot-second}
+use Rattle.words.proofs.VehiclesIn.{Stored, pad-any, present-length, slot-at, vehicles-at, vehicles-become, vehicles-fit, vehicles-of}
 use Rattle.words.specs.Stores.{StartMoved, VehiclePut, endSlot, inSlot, startWord}
-use Rattle.words.specs.Words.{Becomes, VehiclesBecome, Own, vehiclesIn, oneBack, sectionIn, startIn, startOn, startPlace, wordCount, wordsOf}
+use Rattle.words.specs.Words.{Becomes, Own, VehiclesBecome, oneBack, sectionIn, startIn, startOn, startPlace, vehiclesIn, wordCount, wordsOf}
 use Rattle.words.specs.Words.{bySlot, firstWord, movementIn, ringFrom, ringIn, secondWord, slots, vehicleAt}
-use Rattle.working.proofs.Vehicles.{insert-length}
-use Rattle.working.proofs.Made.{vehicles-with}
-use Rattle.working.proofs.Meeting.{redirect-length}
-use Rattle.working.specs.Sections.{insertAt, vehiclesOf, numberAt, padTo, removeAt, unused, withVehicles}
+use Rattle.working.proofs.invariant.Made.{vehicles-with}
+use Rattle.working.proofs.invariant.Meeting.{redirect-length}
+use Rattle.working.proofs.laws.Vehicles.{insert-length}
+use Rattle.working.specs.Sections.{insertAt, numberAt, padTo, removeAt, unused, vehiclesOf, withVehicles}
 use Rattle.working.specs.Steps.{metAt, redirectAt, redirected}
 use Rattle.working.specs.declared.Station.the-variants.{A, B}
 use Rattle.working.specs.declared.Station.{Station}

@@ -4,8 +4,8 @@
 use Prim.Native.Nat.{_+_, _<_, _≤_, suc, zero, ℕ}
 use Rattle.words.proofs.Becoming.{becomes-as, desk-length, own-then}
 use Rattle.words.proofs.Packing.{one-back}
-use Rattle.words.specs.Words.{DeskBecomes, VehiclesBecome, OwnWords, bySlot, oneBack, sectionIn, slotWords, startOn, wordCount, wordsOf}
-use Rattle.working.proofs.Made.{vehicles-with}
+use Rattle.words.specs.Words.{DeskBecomes, OwnWords, VehiclesBecome, bySlot, oneBack, sectionIn, slotWords, startOn, wordCount, wordsOf}
+use Rattle.working.proofs.invariant.Made.{vehicles-with}
 use Rattle.working.specs.Sections.{emptied, insertAt, padTo, padWith, unused, vehiclesOf, withDesk, withVehicles}
 use Rattle.working.specs.WellMade.{oneIf}
 use Rattle.working.specs.declared.Counts.{Counts}

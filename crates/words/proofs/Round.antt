@@ -4,8 +4,8 @@
 use Prim.Native.Nat.{_%_, _+_, _-_, _<_, _≤_, min, suc, zero, ℕ}
 use Rattle.words.specs.Stores.{endSlot}
 use Rattle.words.specs.Words.{oneBack, round, slots, startOn}
-use Rattle.working.proofs.Vehicles.{insert-length}
-use Rattle.working.proofs.Meeting.{redirect-length, redirect-set}
+use Rattle.working.proofs.invariant.Meeting.{redirect-length, redirect-set}
+use Rattle.working.proofs.laws.Vehicles.{insert-length}
 use Rattle.working.specs.Sections.{insertAt, removeAt, unused}
 use Rattle.working.specs.Steps.{redirectAt, redirected}
 use Rattle.working.specs.declared.Station.the-variants.{A, B}

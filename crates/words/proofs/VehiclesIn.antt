@@ -7,10 +7,10 @@ use Rattle.words.proofs.Round.{Moves, Stands, round-at, round-length}
 use Rattle.words.proofs.Slots.{inRing, list-altered, slot-altered, slot-words}
 use Rattle.words.proofs.Written.{as-written, set-past}
 use Rattle.words.specs.Stores.{inSlot}
-use Rattle.words.specs.Words.{Becomes, Own, vehiclesIn, presentIn, sectionIn, startIn, startPlace, wordCount, wordsFrom, wordsOf}
+use Rattle.words.specs.Words.{Becomes, Own, presentIn, sectionIn, startIn, startPlace, vehiclesIn, wordCount, wordsFrom, wordsOf}
 use Rattle.words.specs.Words.{bySlot, firstWord, ringFrom, ringIn, round, secondWord, slotWords, slots, vehicleAt, vehicleIn}
-use Rattle.working.proofs.Made.{length-padTo, vehicles-with}
-use Rattle.working.proofs.Tests.{each-holds}
+use Rattle.working.proofs.invariant.Made.{length-padTo, vehicles-with}
+use Rattle.working.proofs.laws.Tests.{each-holds}
 use Rattle.working.specs.Reasons.{findOf, isNamed, mayMeet, meetingTests}
 use Rattle.working.specs.Sections.{nearestAt, padTo, padWith, unused, vehiclesOf, withVehicles}
 use Rattle.working.specs.declared.Section.{Section}

@@ -2,9 +2,9 @@
 // stands for nothing; a slot is made unused when its vehicle leaves, so that a section has words of its own.
 ghost use Prim.Native.Nat.{_%_, _+_, _-_, _<_, _≤_, min};
 ghost use Rattle.words.specs.Stores.{StartMoved, VehiclePut, endSlot};
-ghost use Rattle.words.specs.Words.{Becomes, VehiclesBecome, Met, OwnWords, oneBack, ringIn, sectionIn, slots, startIn, startOn, vehicleAt};
+ghost use Rattle.words.specs.Words.{Becomes, Met, OwnWords, VehiclesBecome, oneBack, ringIn, sectionIn, slots, startIn, startOn, vehicleAt};
 ghost use Rattle.working.specs.Reasons.{findOf, mayMeet};
-ghost use Rattle.working.specs.Sections.{emptied, insertAt, vehiclesOf, nearestAt, removeAt, unused};
+ghost use Rattle.working.specs.Sections.{emptied, insertAt, nearestAt, removeAt, unused, vehiclesOf};
 ghost use Rattle.working.specs.Steps.{redirectAt, redirected};
 ghost use Rattle.working.specs.declared.Station.the-variants.{B};
 ghost use lib.ListN.{getD, length};
@@ -27,7 +27,7 @@ use crate::vehicles::vehicle_in;
 use crate::vehicles::word_if;
 use section::fitting;
 use section::is_named;
-use section::is_opener;
+use section::is_open_or_through;
 use section::station_number;
 use working::Counts;
 use working::Section;
@@ -217,7 +217,10 @@ fn may_meet(words: &Words, i: usize) -> bool
     let w = at_place(words, i + 1);
     let left_on = v.movement;
     let other_left_on = w.movement;
-    (v.heading == 2) & (w.heading == 1) & is_opener(left_on) & is_opener(other_left_on)
+    (v.heading == 2)
+        & (w.heading == 1)
+        & is_open_or_through(left_on)
+        & is_open_or_through(other_left_on)
 }
 
 // A vehicle that has met another, now heading to a station.

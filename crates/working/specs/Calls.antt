@@ -101,14 +101,14 @@ pub record LastStored (name : List ℕ) (l : List Call) (position : List ℕ) : 
   pub then : position ≡ positionOf (leadsTo fresh (historyOf before))
 
 -- the answers of a list
-abbrev pub answerOf : Call → ℕ
-answerOf (stepped entry numbers answer after) = answer
-answerOf (stored name answer) = answer
-answerOf (fetched name room answer) = answer
+abbrev pub answeredBy : Call → ℕ
+answeredBy (stepped entry numbers answer after) = answer
+answeredBy (stored name answer) = answer
+answeredBy (fetched name room answer) = answer
 
 abbrev pub noneAnswered : ℕ → List Call → Bool
 noneAnswered number [] = true
-noneAnswered number (c ∷ l) = not (eqb (answerOf c) number) && noneAnswered number l
+noneAnswered number (c ∷ l) = not (eqb (answeredBy c) number) && noneAnswered number l
 
 -- Every point of a list is the end of a list, so that what is said of the end is said of every point.
 pub record CallsHold {l : List Call} {k : Kept} (calls : Calls start l k) : Type 0 where

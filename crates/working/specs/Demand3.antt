@@ -1,82 +1,17 @@
--- Demand 3, one statement about every list of steps from a fresh section. In plain words, clause by clause, beside document 01: docs/THEOREM.md.
+-- Demand 3, one statement about every list of steps from a fresh section; proofs/theorems/Demand3 proves it of every run. In plain words, clause by clause, beside document
+-- 01: docs/THEOREM.md. Its terms are document 01's, and stand in that order in Terms; a list of steps, and its run, in Runs; the step, in Steps.
 use Prim.Native.Nat.{_+_, _<_, ℕ}
-use Rattle.working.specs.Acts as acts
 use Rattle.working.specs.Acts.{Act}
-use Rattle.working.specs.Departures.{Departure, Kind, departureOf, kindIn, kindOf, leftOnTrain, leftSlowly}
-use Rattle.working.specs.Effects.{grantedIn}
-use Rattle.working.specs.Events.{At, Says, decode}
 use Rattle.working.specs.Runs.{Done, Run, results, resultsOf}
-use Rattle.working.specs.Sections.{deskOf, fresh, vehiclesOf, numberAt, otherAt, unused}
-use Rattle.working.specs.Turns.{isAccepted}
-use Rattle.working.specs.WellMade.{isFrom, oneIf, sumOver}
-use Rattle.working.specs.declared.Answer.the-variants.{Accepted, Refused}
-use Rattle.working.specs.declared.Answer.{Answer}
-use Rattle.working.specs.declared.Movement.the-variants.{LastTrain, Open, Return, Through, Train}
-use Rattle.working.specs.declared.Movement.{Movement}
+use Rattle.working.specs.Sections.{deskOf, fresh, numberAt, otherAt}
+use Rattle.working.specs.Terms.{AcceptedAt, Departure, ReceivesIt, departureOf, givenUpBy, kindIn, leftSlowly, onTheWayTo, trainsOf, vehicleAt}
 use Rattle.working.specs.declared.Section.{Section}
 use Rattle.working.specs.declared.Station.the-variants.{A, B}
 use Rattle.working.specs.declared.Station.{Station}
-use Rattle.working.specs.declared.Vehicle.{Vehicle}
-use lib.ListN.{getD}
-use mathlib.Core.Bool.{Bool, cond, false, true}
+use mathlib.Core.Bool.{true}
 use mathlib.Core.List.{List, _++_, _∷_}
-use mathlib.Core.Option.{Option, none, some}
+use mathlib.Core.Option.{some}
 use mathlib.Core.Path.{_≡_}
-
--- the vehicle at a place, counted from A
-abbrev pub vehicleAt : Section → ℕ → Vehicle
-vehicleAt s i = getD (vehiclesOf s) i unused
-
--- ---- line clears
-
--- a figure of a station's vehicles, 0 of the other's
-abbrev pub ofStation : Station → (Vehicle → ℕ) → Vehicle → ℕ
-ofStation x f v = cond (isFrom (numberAt x) v) (f v) 0
-
--- "A station's trains are its vehicles that left on TRAIN." T-03: one endorsed as the last "counts as a train"
-abbrev pub trainsOf : List Done → Section → Station → ℕ
-trainsOf l s x = sumOver (ofStation x (λ v. oneIf (leftOnTrain (departureOf l v)))) (vehiclesOf s)
-
--- "Line clears on the way to a station are the granted carried by the other's vehicles in the section."
-abbrev pub onTheWayTo : Section → Station → ℕ
-onTheWayTo s x = sumOver (ofStation (otherAt x) (λ v. grantedIn (v .movement))) (vehiclesOf s)
-
--- T-03: the line clears that a vehicle gives up, and those that a station's vehicles in the section carry
-abbrev pub givenUpIn : Movement → ℕ
-givenUpIn (Open asked) = 0
-givenUpIn Through = 0
-givenUpIn (Return asked granted) = 0
-givenUpIn (Train asked granted) = 0
-givenUpIn (LastTrain asked granted givenUp) = givenUp
-
-abbrev pub givenUpBy : Section → Station → ℕ
-givenUpBy s x = sumOver (ofStation x (λ v. givenUpIn (v .movement))) (vehiclesOf s)
-
--- ---- neighbours
-
-abbrev pub formIn : Answer → ℕ
-formIn (Refused why) = 0
-formIn (Accepted number forms speed) = number
-
--- a step that is an accepted entry of station x and no MEET: an OPEN, THROUGH, RETURN, TRAIN or RECEIVE. "BEGIN and RESUME belong to neither station."
-pub record AcceptedAt (d : Done) (x : Station) (act : Act) : Type 0 where
-  pub time : ℕ
-  pub entry : decode (d .bytes) ≡ Says (At x time act)
-  pub accepted : isAccepted (d .answer) ≡ true
-
-abbrev pub isSome : Option Kind → Bool
-isSome none = false
-isSome (some kind) = true
-
-abbrev pub isDeparture : Act → Bool
-isDeparture act = isSome (kindOf act)
-
--- "The second of two entries receives what the first sent where the first is a departure and the second a RECEIVE that names the first's station as sender and the form
--- number in the first's answer."
-abbrev pub ReceivesIt : Act → Station → Answer → Act → Type 0
-ReceivesIt first x answer second = (isDeparture first ≡ true) × (second ≡ acts.Receive x (formIn answer))
-
--- ---- the whole
 
 pub record Demand3 {l : List Done} {s : Section} (run : Run fresh l s) : Type 0 where
   -- each step, accepted or refused, has the answer and the section that the definitions fix for it

@@ -6,8 +6,6 @@
 use Prim.Native.Nat.{_<_, ℕ}
 use Rattle.working.specs.Acts as acts
 use Rattle.working.specs.Acts.{Act}
-use Rattle.working.specs.Demand3.{vehicleAt}
-use Rattle.working.specs.Departures.{LAST-TRAIN, kindIn}
 use Rattle.working.specs.Effects.{Arrive, Depart, Plan, Refuse, effectOf, otherDesk, ownDesk}
 use Rattle.working.specs.Entries.{entryIn, isCut}
 use Rattle.working.specs.Events.{At, Bad, Begin, Decoded, Event, Meet, Resume, Says, decode}
@@ -17,6 +15,7 @@ use Rattle.working.specs.Runs.{Done, Run, acceptsBy, endBy, results, res
 use Rattle.working.specs.Sections.{deskOf, fresh, nearestAt, numberAt, vehiclesOf, withHolds}
 use Rattle.working.specs.Speeds.{followFigure01, follows, viewNumber}
 use Rattle.working.specs.Steps.{doneBy, entered, ifMade, refused, unlessRefused}
+use Rattle.working.specs.Terms.{LAST-TRAIN, kindIn, vehicleAt}
 use Rattle.working.specs.WellMade.{wellMade}
 use Rattle.working.specs.declared.Answer.the-variants as answer
 use Rattle.working.specs.declared.Answer.{Answer}

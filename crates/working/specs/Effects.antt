@@ -146,8 +146,8 @@ otherDesk d time class (Train asked granted) = withClears (broughtClears (d .cle
 otherDesk d time class (LastTrain asked granted givenUp) = withClears (broughtClears (d .clears) asked 0) (received d time 0)
 
 -- a receipt's own effect, by whose vehicle it is
-abbrev pub takenDesk : Station → Desk → ℕ → Vehicle → Desk
-takenDesk x d time v = cond (eqb (v .sender) (numberAt x)) (ownDesk d time (v .movement)) (otherDesk d time (v .class) (v .movement))
+abbrev pub receiptDesk : Station → Desk → ℕ → Vehicle → Desk
+receiptDesk x d time v = cond (eqb (v .sender) (numberAt x)) (ownDesk d time (v .movement)) (otherDesk d time (v .class) (v .movement))
 
 -- the line clears that a vehicle grants
 abbrev pub grantedIn : Movement → ℕ
@@ -173,7 +173,7 @@ replied granted d = releasedDesk (grantedDesk granted d)
 
 -- any receipt, in this order: its own effect, in which a train lowers owes; the reply that the vehicle brings; and what waits
 unfoldable pub arriveDesk : Station → Desk → ℕ → Vehicle → Desk
-arriveDesk x d time v = replied (grantedIn (v .movement)) (takenDesk x d time v)
+arriveDesk x d time v = replied (grantedIn (v .movement)) (receiptDesk x d time v)
 
 -- ---- each kind
 

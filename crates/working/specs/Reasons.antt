@@ -6,7 +6,7 @@ use Rattle.working.specs.Acts.{Act}
 use Rattle.working.specs.Entries.{every}
 use Rattle.working.specs.Refusals.{Test}
 use Rattle.working.specs.Sections.{numberAt, unused}
-use Rattle.working.specs.WellMade.{isOpener}
+use Rattle.working.specs.WellMade.{isOpenOrThrough}
 use Rattle.working.specs.declared.Desk.{Desk}
 use Rattle.working.specs.declared.Interval.the-variants.{Since, Stopped}
 use Rattle.working.specs.declared.Interval.{Interval}
@@ -88,7 +88,7 @@ isNamed sender form v = eqb (v .sender) (numberAt sender) && eqb (v .form) form
 abbrev pub mayEnter : Station → Vehicle → Bool
 mayEnter x v =
     cond (eqb (v .sender) (numberAt x))
-    (isOpener (v .movement) && (not (v .met) || eqb (v .heading) (numberAt x)))
+    (isOpenOrThrough (v .movement) && (not (v .met) || eqb (v .heading) (numberAt x)))
     (eqb (v .heading) (numberAt x))
 
 -- v is the vehicle nearest S
@@ -118,8 +118,8 @@ meetingTests l i =
     ltb (i + 1) (length l)
     ∷ eqb (getD l i unused .heading) 2
     ∷ eqb (getD l (i + 1) unused .heading) 1
-    ∷ isOpener (getD l i unused .movement)
-    ∷ isOpener (getD l (i + 1) unused .movement)
+    ∷ isOpenOrThrough (getD l i unused .movement)
+    ∷ isOpenOrThrough (getD l (i + 1) unused .movement)
     ∷ []
 
 abbrev pub mayMeet : List Vehicle → ℕ → Bool

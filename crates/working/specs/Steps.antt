@@ -5,7 +5,7 @@ use Rattle.working.specs.Effects.{Arrive, Depart, Plan, Refuse, effectOf
 use Rattle.working.specs.Events.{At, Bad, Begin, Decoded, Event, Meet, Resume, Says, decode}
 use Rattle.working.specs.Reasons.{beginTests, findOf, meetTests, resumeTests, testsOf}
 use Rattle.working.specs.Refusals.{firstOf}
-use Rattle.working.specs.Sections.{countRefusal, deskOf, emptied, insertAt, vehiclesOf, nearestAt, numberAt, removeAt, withDesk, withVehicles}
+use Rattle.working.specs.Sections.{countRefusal, deskOf, emptied, insertAt, nearestAt, numberAt, removeAt, vehiclesOf, withDesk, withVehicles}
 use Rattle.working.specs.WellMade.{wellMade}
 use Rattle.working.specs.declared.Answer.the-variants as answer
 use Rattle.working.specs.declared.Desk.{Desk}

@@ -1,7 +1,7 @@
 -- Document 01, "The section": when a section is well made, clause by clause.
 use Prim.Native.Nat.{_+_, ℕ}
 use Rattle.working.specs.Entries.{every}
-use Rattle.working.specs.Sections.{deskOf, freshDesk, vehiclesOf, numberAt}
+use Rattle.working.specs.Sections.{deskOf, freshDesk, numberAt, vehiclesOf}
 use Rattle.working.specs.declared.Desk.{Desk}
 use Rattle.working.specs.declared.Interval.the-variants.{Since, Stopped}
 use Rattle.working.specs.declared.Interval.{Interval}
@@ -33,12 +33,12 @@ abbrev pub isFrom : ℕ → Vehicle → Bool
 isFrom n v = eqb (v .sender) n
 
 -- OPEN or THROUGH
-abbrev pub isOpener : Movement → Bool
-isOpener (Open asked) = true
-isOpener Through = true
-isOpener (Return asked granted) = false
-isOpener (Train asked granted) = false
-isOpener (LastTrain asked granted givenUp) = false
+abbrev pub isOpenOrThrough : Movement → Bool
+isOpenOrThrough (Open asked) = true
+isOpenOrThrough Through = true
+isOpenOrThrough (Return asked granted) = false
+isOpenOrThrough (Train asked granted) = false
+isOpenOrThrough (LastTrain asked granted givenUp) = false
 
 -- "class is 1 to 5 on OPEN and RETURN, 1 on THROUGH, 0 on TRAIN; OPEN has asked 1 to 8 and granted 0, THROUGH both 0"; else asked and granted are at most 8;
 -- T-03: "recorded as a TRAIN but for the kind", and given up is "0 to 7, there only"
@@ -54,7 +54,7 @@ vehicleTests v =
     (eqb (v .sender) 1 || eqb (v .sender) 2)
     ∷ (eqb (v .heading) 1 || eqb (v .heading) 2)
     ∷ (v .met || not (eqb (v .heading) (v .sender)))  -- "unmet vehicles head away from their sender"
-    ∷ (isOpener (v .movement) || not (v .met))  -- "RETURN and TRAIN are unmet"
+    ∷ (isOpenOrThrough (v .movement) || not (v .met))  -- "RETURN and TRAIN are unmet"
     ∷ every (movementTests (v .movement) (v .class))
     ∷ []
 
@@ -67,12 +67,12 @@ ordered [] = true
 ordered (v ∷ l) = cond (isFrom 1 v) (ordered l) (all (isFrom 2) (v ∷ l))
 
 -- "form numbers .. differ among one sender's vehicles"
-abbrev pub same : Vehicle → Vehicle → Bool
-same v w = eqb (v .sender) (w .sender) && eqb (v .form) (w .form)
+abbrev pub sameForm : Vehicle → Vehicle → Bool
+sameForm v w = eqb (v .sender) (w .sender) && eqb (v .form) (w .form)
 
 abbrev pub differ : List Vehicle → Bool
 differ [] = true
-differ (v ∷ l) = all (λ w. not (same v w)) l && differ l
+differ (v ∷ l) = all (λ w. not (sameForm v w)) l && differ l
 
 -- "unused places are zero"
 abbrev pub isBlankMovement : Movement → Bool
@@ -145,14 +145,14 @@ abbrev pub within : ℕ → Range → Bool
 within n any = true
 within n (upTo most) = leb n most
 
-abbrev pub rangeTests : List Figure → List Bool
-rangeTests [] = []
-rangeTests (f ∷ fs) = within (f .0) (f .1) ∷ rangeTests fs
+abbrev pub figureTests : List Figure → List Bool
+figureTests [] = []
+figureTests (f ∷ fs) = within (f .0) (f .1) ∷ figureTests fs
 
 -- the desk of station number n, beside the vehicles present
 abbrev pub deskTests : ℕ → Desk → List Vehicle → List Bool
 deskTests n d l =
-    rangeTests (deskFigures d)
+    figureTests (deskFigures d)
     ++ leb (countFrom n l) (d .sent)  -- "each sent is at least that station's vehicles present"
     ∷ notLater (d .interval) (d .clock)
     ∷ all (numbered n (d .last)) l

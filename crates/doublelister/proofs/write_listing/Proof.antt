@@ -1,12 +1,12 @@
 -- `doublelister::write_listing` is safe and ends: what is filled fits the block, and a block leaves fewer lines to come.
 -- Assumes nothing.
 use Prim.Native.Nat.{_≤_}
+use Rattle.doubleentering.specs.DoubleWords.{doubleIn}
 use Rattle.doublelister.proofs.write_listing.Statement.{statement}
 use Rattle.doublelister.proofs.write_listing.Tie as tie
 use Rattle.listing.specs.LineText.{longestLine}
 use Rattle.step.proofs.Ending.{block-fewer, linesLeft}
 use Rattle.step.specs.Lines.{listingIn}
-use Rattle.lines.specs.Lines.{doubleIn}
 use Rattle.working.specs.declared.Table.the-variants.{DoubleLine}
 use borrow.Author.Needs.{needs}
 use borrow.Author.Tests.{not-true}

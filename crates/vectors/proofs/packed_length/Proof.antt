@@ -7,7 +7,7 @@ use Rattle.working.specs.Entries.{valueOf}
 use borrow.Author.Needs.{needs}
 use lib.ListN.{getD, length}
 use mathlib.Core.List.{List, [], _∷_}
-use mathlib.Core.Path.{_≡_, _∙_, refl}
+use mathlib.Core.Path.{_∙_, _≡_, refl}
 use native.Mathlib.Omega.{arith}
 
 four : (bytes : List ℕ) → length bytes ≡ 4 → valueOf bytes ≡ (getD bytes 0 0 * 256 + getD bytes 1 0) * 65536 + (getD bytes 2 0 * 256 + getD bytes 3 0)

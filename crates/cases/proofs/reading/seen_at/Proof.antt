@@ -191,7 +191,7 @@ module _ {M : Type 1} (𝓤 : URA M) (H : Heap 𝓤) (A : Atoms 𝓤) (W : Given
   advance-said : (d r : Reader) → ent 𝓤 (ensured 𝓤 H A advance.ended (advance.clauses 𝓤 H A mem run) (κ, tt) (d, tt) tt r) (fact 𝓤 (Moved d r))
   advance-said d r = exE 𝓤 _ (λ ws. snd∗ 𝓤 (sem 𝓤 H A (lasts advance.ended (κ, tt) (d, tt) ws)) (fact 𝓤 (Moved d r)))
 
-  -- a reader's position fits, as what it owns tells
+  -- a reader's offset fits, as what it owns tells
   fits : (t : Reader) (u : Val) → Is (B (κ, tt)) t (u ∷ []) → t .at < 2 ^ 64
   fits t u is =
       let told = subst (Is (B (κ, tt)) t) (LL.tells (T.the-type (held κ)) (T′.the-laws (held κ)) t (u ∷ []) is) is in

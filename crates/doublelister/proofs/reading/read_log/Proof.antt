@@ -1,10 +1,10 @@
 -- `reading::read_log` meets its contract: what is read lies within the room. The measure is the room left and the interrupted reads still allowed.
 -- Assumes nothing.
 use Prim.Native.Nat.{_+_, _-_, _<_, _≤_, ℕ}
-use Rattle.input.proofs.Following.{Follows, follows}
-use Rattle.input.specs.Reading.{Within, mostRead}
 use Rattle.doublelister.proofs.reading.read_log.Statement.{statement}
 use Rattle.doublelister.proofs.reading.read_log.Tie as tie
+use Rattle.input.proofs.Following.{Follows, follows}
+use Rattle.input.specs.Reading.{Within, mostRead}
 use borrow.Author.Needs.{needs}
 use borrow.Rule.Slice.PartMut.{mid-len, same-len-mid}
 use lib.ListN.{length}

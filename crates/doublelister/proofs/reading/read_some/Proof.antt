@@ -1,8 +1,8 @@
 -- `reading::read_some` meets its contract: what C's answer counts lies within the memory lent.
 -- Assumes nothing.
-use Rattle.input.proofs.Following.{within}
 use Rattle.doublelister.proofs.reading.read_some.Statement.{statement}
 use Rattle.doublelister.proofs.reading.read_some.Tie as tie
+use Rattle.input.proofs.Following.{within}
 use borrow.Author.Needs.{needs}
 use lib.ListN.{length}
 use native.Mathlib.Omega.{arith}

@@ -5,7 +5,7 @@ use Rattle.entering.proofs.receipts.arrive_own.Statement.{statement}
 use Rattle.entering.proofs.receipts.arrive_own.Tie as tie
 use Rattle.words.proofs.Becoming.{desk-then}
 use Rattle.words.specs.Words.{withOut, withReceipt}
-use Rattle.working.specs.WellMade.{isOpener}
+use Rattle.working.specs.WellMade.{isOpenOrThrough}
 use borrow.Author.Needs.{needs}
 use mathlib.Core.Bool.{false, false≢true}
 use mathlib.Core.Path.{_∙_, ap, sym}
@@ -30,13 +30,13 @@ returns-2 c =
 
 -- no other of the station's own may enter
 returns-3 : tie.Need-returns-3
-returns-3 c = absurd (false≢true (sym (ap isOpener (c .enum-told3 .given .1)) ∙ start-of (c .before .before) .pre .1))
+returns-3 c = absurd (false≢true (sym (ap isOpenOrThrough (c .enum-told3 .given .1)) ∙ start-of (c .before .before) .pre .1))
 
 returns-4 : tie.Need-returns-4
-returns-4 c = absurd (false≢true (sym (ap isOpener (c .enum-told4 .given .1)) ∙ start-of (c .before .before) .pre .1))
+returns-4 c = absurd (false≢true (sym (ap isOpenOrThrough (c .enum-told4 .given .1)) ∙ start-of (c .before .before) .pre .1))
 
 returns-5 : tie.Need-returns-5
-returns-5 c = absurd (false≢true (sym (ap isOpener (c .enum-told5 .given .1)) ∙ start-of (c .before .before) .pre .1))
+returns-5 c = absurd (false≢true (sym (ap isOpenOrThrough (c .enum-told5 .given .1)) ∙ start-of (c .before .before) .pre .1))
 
 pub arrive-own-spec : {M : Type 1} → statement M
 arrive-own-spec =

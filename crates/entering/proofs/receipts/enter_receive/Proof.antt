@@ -4,7 +4,7 @@ use Rattle.entering.proofs.Becoming.{Looked, Passed, act-done, desk-beh
 use Rattle.entering.proofs.receipts.enter_receive.Statement.{statement}
 use Rattle.entering.proofs.receipts.enter_receive.Tie as tie
 use Rattle.words.specs.Words.{startOn}
-use Rattle.working.proofs.Tests.{none-holds}
+use Rattle.working.proofs.laws.Tests.{none-holds}
 use Rattle.working.specs.Acts.{Receive}
 use Rattle.working.specs.Effects.{arriveDesk}
 use Rattle.working.specs.Events.{stationOf}

@@ -3,10 +3,10 @@
 use Rattle.entering.proofs.Becoming.{desk-is, desk-stays}
 use Rattle.entering.proofs.receipts.put_reply.Statement.{statement}
 use Rattle.entering.proofs.receipts.put_reply.Tie as tie
-use Rattle.working.proofs.Receipts.{nothing-replied}
-use Rattle.working.proofs.Tests.{no-test, or-left, or-right}
 use Rattle.words.proofs.Becoming.{desk-then}
 use Rattle.words.specs.Words.{sectionIn, withClears, withWaiting}
+use Rattle.working.proofs.invariant.Receipts.{nothing-replied}
+use Rattle.working.proofs.laws.Tests.{no-test, or-left, or-right}
 use Rattle.working.specs.Sections.{deskOf}
 use borrow.Author.Needs.{needs}
 use lib.Dec.{ltb}

@@ -2,9 +2,9 @@
 -- Assumes nothing.
 use Rattle.entering.proofs.receipts.take_in.Statement.{statement}
 use Rattle.entering.proofs.receipts.take_in.Tie as tie
-use Rattle.working.proofs.Tests.{both}
+use Rattle.working.proofs.laws.Tests.{both}
 use Rattle.working.specs.Sections.{numberAt}
-use Rattle.working.specs.WellMade.{isOpener}
+use Rattle.working.specs.WellMade.{isOpenOrThrough}
 use borrow.Author.Needs.{needs}
 use borrow.Author.Tests.{eq-eqb, ne-eqb}
 use lib.Dec.{eqb}
@@ -18,8 +18,8 @@ arrive-own-requires : tie.Need-arrive-own-requires
 arrive-own-requires c κs =
     let start = c .before .before .before .before in
     let v = start .args .v in
-    let may : (isOpener (v .movement) && (not (v .met) || eqb (v .heading) (numberAt (start .args .at)))) ≡ true = rw (own (c .before)) at (start .pre .1) in
-    (start .pre .0, both (isOpener (v .movement)) (not (v .met) || eqb (v .heading) (numberAt (start .args .at))) may .0)
+    let may : (isOpenOrThrough (v .movement) && (not (v .met) || eqb (v .heading) (numberAt (start .args .at)))) ≡ true = rw (own (c .before)) at (start .pre .1) in
+    (start .pre .0, both (isOpenOrThrough (v .movement)) (not (v .met) || eqb (v .heading) (numberAt (start .args .at))) may .0)
 
 returns : tie.Need-returns
 returns c = rw (own (c .before .before)) (c .arrive-own .ensures)

@@ -1,9 +1,9 @@
 -- `entries::put_fields` meets its contract: ten numbers stored one behind another are one paste of them.
 -- Assumes nothing.
-use Rattle.step.proofs.Stored.{all-stored}
 use Rattle.lupinshift.proofs.entries.put_fields.Statement.{statement}
 use Rattle.lupinshift.proofs.entries.put_fields.Tie as tie
 use Rattle.lupinshift.specs.Fields.{fieldsOf}
+use Rattle.step.proofs.Stored.{all-stored}
 use borrow.Author.Needs.{needs}
 use lib.ListN.{length-set}
 use native.Mathlib.Omega.{arith}

@@ -5,7 +5,7 @@ use Rattle.position.proofs.Places.{vehicle-there}
 use Rattle.position.proofs.sections.vehicles_at.Statement.{statement}
 use Rattle.position.proofs.sections.vehicles_at.Tie as tie
 use Rattle.section.proofs.Passes.{Up, at-end}
-use Rattle.working.proofs.OwnPlaces.{place-next}
+use Rattle.working.proofs.laws.OwnPlaces.{place-next}
 use Rattle.working.specs.Positions.{vehiclesIn}
 use Rattle.working.specs.Sections.{padTo, padWith}
 use borrow.Author.Needs.{needs}

@@ -2,7 +2,7 @@
 -- Assumes nothing.
 use Rattle.rules.proofs.reasons.departure_verdict.Statement.{statement}
 use Rattle.rules.proofs.reasons.departure_verdict.Tie as tie
-use Rattle.working.proofs.Scans.{first-passes, first-refuses}
+use Rattle.working.proofs.laws.Scans.{first-passes, first-refuses}
 use Rattle.working.specs.Reasons.{lastTests}
 use Rattle.working.specs.Refusals.{Test}
 use borrow.Author.Needs.{needs}

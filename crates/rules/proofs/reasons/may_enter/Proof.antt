@@ -10,5 +10,5 @@ may-enter-spec =
     tie.close
     (tie.spec
     (λ c κs. search needs) (λ c κs. search needs)
-    (λ c. let own = c .before .before in rw (← own .before .before .before .station-number .ensures, eq-eqb _ _ (own .if1 .taken), c .before .is-opener .ensures))
+    (λ c. let own = c .before .before in rw (← own .before .before .before .station-number .ensures, eq-eqb _ _ (own .if1 .taken), c .before .is-open-or-through .ensures))
     (λ c. rw (← c .before .before .before .station-number .ensures, ne-eqb _ _ (c .if1 .left))))

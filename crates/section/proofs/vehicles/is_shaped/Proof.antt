@@ -6,7 +6,7 @@ use borrow.Author.Needs.{needs}
 use mathlib.Core.Bool.{and-assoc, and-true}
 
 returns : tie.Need-returns
-returns c = rw (c .movement-made .ensures, c .before .before .is-opener .ensures) (simp (and-assoc, and-true))
+returns c = rw (c .movement-made .ensures, c .before .before .is-open-or-through .ensures) (simp (and-assoc, and-true))
 
 pub is-shaped-spec : {M : Type 1} → statement M
 is-shaped-spec = tie.close (tie.spec (λ c κs. search needs) (λ c κs. search needs) returns)

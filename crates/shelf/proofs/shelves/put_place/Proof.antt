@@ -4,7 +4,7 @@ use Prim.Native.Nat.{_*_, _+_, _-_}
 use Rattle.position.proofs.Copies.{in-tail}
 use Rattle.shelf.proofs.shelves.put_place.Statement.{statement}
 use Rattle.shelf.proofs.shelves.put_place.Tie as tie
-use Rattle.working.proofs.Pastes.{paste-twice}
+use Rattle.working.proofs.laws.Pastes.{paste-twice}
 use Rattle.working.specs.Entries.{pasted}
 use borrow.Author.Needs.{needs}
 use borrow.Rule.Slice.PartMut.{putMid}

@@ -4,7 +4,7 @@
 use Rattle.shelf.proofs.Verdicts.{at-place, fails, holds, long-shelf, short-name}
 use Rattle.shelf.proofs.shelves.store.Statement.{statement}
 use Rattle.shelf.proofs.shelves.store.Tie as tie
-use Rattle.working.proofs.Positions.{read-then-written}
+use Rattle.working.proofs.theorems.Positions.{read-then-written}
 use borrow.Author.Needs.{needs}
 use borrow.Author.Tests.{eq-eqb, ne-eqb}
 use mathlib.Core.Path.{refl}

@@ -6,7 +6,7 @@ use Rattle.step.proofs.Stored.{whole-copied}
 use Rattle.step.proofs.positions.step_position.Statement.{statement}
 use Rattle.step.proofs.positions.step_position.Tie as tie
 use Rattle.words.specs.Words.{sectionIn}
-use Rattle.working.proofs.Positions.{position-is, read-then-written}
+use Rattle.working.proofs.theorems.Positions.{position-is, read-then-written}
 use Rattle.working.specs.Positions.{answerIn, isPosition, positionOf, refusalOf, sectionAt}
 use Rattle.working.specs.Steps.{stepOf}
 use Rattle.working.specs.declared.Stepped.{Stepped}

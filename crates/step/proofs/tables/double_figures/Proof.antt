@@ -1,6 +1,6 @@
 -- `tables::double_figures` meets its contract: each figure is read off the words that hold it.
 -- Assumes nothing.
-use Rattle.lines.specs.Lines.{doubleIn}
+use Rattle.doubleentering.specs.DoubleWords.{doubleIn}
 use Rattle.step.proofs.tables.double_figures.Statement.{statement}
 use Rattle.step.proofs.tables.double_figures.Tie as tie
 use Rattle.words.specs.Words.{sectionIn}

@@ -6,7 +6,7 @@ use Rattle.words.proofs.VehiclesIn.{places-of}
 use Rattle.words.proofs.kept.places_in.Statement.{statement}
 use Rattle.words.proofs.kept.places_in.Tie as tie
 use Rattle.words.specs.Words.{sectionIn}
-use Rattle.working.proofs.OwnPlaces.{place-next}
+use Rattle.working.proofs.laws.OwnPlaces.{place-next}
 use Rattle.working.specs.Sections.{padTo, padWith, vehiclesOf}
 use borrow.Author.Needs.{needs}
 use lib.ListN.{set, take}

@@ -1,7 +1,7 @@
 -- `ring::at_place` meets its contract: place i stands in the slot i on from the start.
 -- Assumes nothing.
 use Prim.Native.Nat.{_%_, _+_}
-use Rattle.words.proofs.VehiclesIn.{vehicles-at, vehicles-of, present-length}
+use Rattle.words.proofs.VehiclesIn.{present-length, vehicles-at, vehicles-of}
 use Rattle.words.proofs.ring.at_place.Statement.{statement}
 use Rattle.words.proofs.ring.at_place.Tie as tie
 use Rattle.words.specs.Words.{ringIn, slots, vehicleAt}

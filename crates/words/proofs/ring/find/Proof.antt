@@ -7,7 +7,7 @@ use Rattle.words.proofs.ring.find.Statement.{statement}
 use Rattle.words.proofs.ring.find.Tie as tie
 use Rattle.words.specs.Words.{sectionIn}
 use Rattle.working.specs.Reasons.{findOf, isNamed}
-use Rattle.working.specs.Sections.{vehiclesOf, unused}
+use Rattle.working.specs.Sections.{unused, vehiclesOf}
 use borrow.Author.Needs.{needs}
 use lib.ListN.{drop, getD}
 use mathlib.Core.Path.{_∙_, _≡_, ap, sym}

@@ -24,7 +24,7 @@ returns-2 c =
     let a = first .before .before .before .args in
     let l = vehiclesOf (sectionIn (a .words .now)) in
     let on : a .i + 1 < length l = omega arith in
-    simp (and-assoc, and-true) (rw (lt-ltb (a .i + 1) (length l) on, c .is-opener2 .ensures, c .before .is-opener .ensures, first .at-place .ensures, second .at-place2 .ensures))
+    simp (and-assoc, and-true) (rw (lt-ltb (a .i + 1) (length l) on, c .is-open-or-through2 .ensures, c .before .is-open-or-through .ensures, first .at-place .ensures, second .at-place2 .ensures))
 
 pub may-meet-spec : {M : Type 1} → statement M
 may-meet-spec =

@@ -5,7 +5,7 @@ use Rattle.words.proofs.VehiclesIn.{near-none}
 use Rattle.words.proofs.ring.nearest.Statement.{statement}
 use Rattle.words.proofs.ring.nearest.Tie as tie
 use Rattle.words.specs.Words.{sectionIn}
-use Rattle.working.specs.Sections.{vehiclesOf, unused}
+use Rattle.working.specs.Sections.{unused, vehiclesOf}
 use borrow.Author.Needs.{needs}
 use lib.ListN.{getD, length}
 use mathlib.Core.Path.{_∙_, _≡_, ap, sym}

@@ -1,9 +1,9 @@
 -- `vehicles::movement_in` meets its contract: the low byte is 0, 1, 2, 3 or more, and the definition goes by it.
 -- Assumes nothing.
+use Prim.Native.Nat.{_%_}
 use Rattle.words.proofs.Packing.{left-last}
 use Rattle.words.proofs.vehicles.movement_in.Statement.{statement}
 use Rattle.words.proofs.vehicles.movement_in.Tie as tie
-use Prim.Native.Nat.{_%_}
 use borrow.Author.Needs.{needs}
 use native.Mathlib.Omega.{arith}
 

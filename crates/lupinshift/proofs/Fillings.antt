@@ -8,7 +8,7 @@ use Rattle.lupinshift.specs.Answers.{EndsTheListing, FiguresInTheEnd, la
 use Rattle.lupinshift.specs.State.{Begins, Fillings, FillingsAreListing, FillsOn, NoneMore, OwnFromTheStart, fill, listingAt, no-more, stateWords}
 use Rattle.step.proofs.Whole.{blocks, none-left-over}
 use Rattle.step.specs.Blocks.{Blocks, block, none-left}
-use Rattle.step.specs.Lines.{Listing, blockOf}
+use Rattle.step.specs.ListingLines.{Listing, blockOf}
 use Rattle.step.specs.Listings.{figuresIn, joined, linesOf, listingOf}
 use Rattle.words.specs.Words.{Own, sectionIn, startIn, wordCount, wordsOf}
 use Rattle.working.specs.Sections.{fresh}

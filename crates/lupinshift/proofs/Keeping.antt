@@ -4,7 +4,7 @@
 -- Assumes nothing.
 use Prim.Native.Nat.{_+_, _<_, _≤_, ℕ}
 use Rattle.lupinshift.specs.State.{Begins, FillsOn, Keeps, figureWords, listedAt, listingAt, stateWords}
-use Rattle.step.specs.Lines.{FillsWords, startOf}
+use Rattle.step.specs.ListingLines.{FillsWords, startOf}
 use Rattle.step.specs.declared.next_line.Listed.{Listed}
 use Rattle.step.specs.declared.next_line.Put.{Put}
 use Rattle.words.specs.Words.{OwnWords, wordCount}

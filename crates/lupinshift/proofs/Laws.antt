@@ -6,7 +6,7 @@ use Rattle.listing.specs.LineText.{PutsLine, endFigures, lastLine, longestLine}
 use Rattle.lupinshift.specs.Answers.{Ends, Gives, Lists, lastLineOf}
 use Rattle.step.proofs.Room.{listing-fits}
 use Rattle.step.proofs.Whole.{room-for-all}
-use Rattle.step.specs.Lines.{FillsIn, Listing, begun, largestCount}
+use Rattle.step.specs.ListingLines.{FillsIn, Listing, begun, largestCount}
 use Rattle.step.specs.Listings.{listingRoom}
 use Rattle.step.specs.Running.{endOver}
 use Rattle.step.specs.declared.running.LogEnd.{LogEnd}

@@ -1,7 +1,7 @@
 -- Where a single line's listing stands, in words that a host lends: what listing they stand for, of any words, and what the functions on them leave.
 use Prim.Native.Nat.{_+_, _<_, _≤_, ℕ}
 use Rattle.listing.specs.LineText.{longestLine}
-use Rattle.step.specs.Lines.{Listing, Portion, begun, blockOf, largestCount, listedOf, listingIn}
+use Rattle.step.specs.ListingLines.{Listing, Portion, begun, blockOf, largestCount, listedOf, listingIn}
 use Rattle.step.specs.Listings.{listingOf}
 use Rattle.step.specs.Tables.{Behind}
 use Rattle.step.specs.declared.next_line.Listed.{Listed}

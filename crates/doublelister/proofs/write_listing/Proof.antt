@@ -6,7 +6,7 @@ use Rattle.doublelister.proofs.write_listing.Statement.{statement}
 use Rattle.doublelister.proofs.write_listing.Tie as tie
 use Rattle.listing.specs.LineText.{longestLine}
 use Rattle.step.proofs.Ending.{block-fewer, linesLeft}
-use Rattle.step.specs.Lines.{listingIn}
+use Rattle.step.specs.ListingLines.{listingIn}
 use Rattle.working.specs.declared.Table.the-variants.{DoubleLine}
 use borrow.Author.Needs.{needs}
 use borrow.Author.Tests.{not-true}

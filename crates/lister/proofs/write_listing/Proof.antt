@@ -5,7 +5,7 @@ use Rattle.lister.proofs.write_listing.Statement.{statement}
 use Rattle.lister.proofs.write_listing.Tie as tie
 use Rattle.listing.specs.LineText.{longestLine}
 use Rattle.step.proofs.Ending.{block-fewer, linesLeft}
-use Rattle.step.specs.Lines.{listingIn}
+use Rattle.step.specs.ListingLines.{listingIn}
 use Rattle.words.specs.Words.{sectionIn}
 use Rattle.working.specs.declared.Table.the-variants.{SingleLine}
 use borrow.Author.Needs.{needs}

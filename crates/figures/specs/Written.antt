@@ -16,7 +16,7 @@ use mathlib.Core.List.{List, [], _∷_}
 abbrev pub vehicleFigures : Vehicle → List ℕ
 vehicleFigures v = cond (isBlank v) (replicate 10 0) (vehicleBytes v)
 
--- bytes in the place of those that stand from a position on, where all of them have room there
+-- bytes in the place of those that stand from an offset on, where all of them have room there
 unfoldable pub putAt : List ℕ → ℕ → List ℕ → List ℕ
 putAt room at bytes = cond (leb (at + length bytes) (length room)) (pasted room at bytes) room
 

@@ -1,4 +1,4 @@
--- T-06, "writing an entry from its fields into lent bytes, and reading one into fields": the map and the fields of an entry as ten numbers of 16 bits, in the order map, kind,
+-- T-06: an entry written from its fields into lent bytes, and one read into fields. The map and the fields of an entry as ten numbers of 16 bits, in the order map, kind,
 -- station, time, view, class, asked, granted, sender, number.
 use Prim.Native.Nat.{min, ℕ}
 use Rattle.working.specs.Entries.{logAfter, pasted, readAt, refusalWritten, valuesOf, writtenAt}
@@ -47,7 +47,7 @@ numberRead End = numberOf EndsInside
 numberRead (Whole e next) = 0
 numberRead (Refused why next) = numberOf why
 
--- the ten fields, "absent ones as 0"; "Fields of an entry that is not read" keep their values
+-- the ten fields, absent ones as 0; where no entry is read they keep their values
 abbrev pub fieldsRead : Read → List ℕ → List ℕ
 fieldsRead End fields = fields
 fieldsRead (Whole e next) fields = pasted fields 0 (fieldsOf e)

@@ -22,7 +22,7 @@ pub record Kept : Type 0 where
   pub position : List ℕ
   pub shelf : List ℕ
 
--- "The fresh section is 281 zeros", and the empty shelf is zeros
+-- the fresh section is 281 zeros, and the empty shelf is zeros
 abbrev pub start : Kept
 start = record { position = replicate 281 0; shelf = replicate 4688 0 }
 
@@ -33,7 +33,7 @@ pub data Call : Type 0 where
   stored : (name : List ℕ) (answer : ℕ) → Call
   fetched : (name : List ℕ) (room answer : ℕ) → Call
 
--- what the contracts of the three functions say of a call: "each store is handed the section's own position, each fetch puts it back there"
+-- what the contracts of the three functions say of a call: each store is handed the section's own position, and each fetch puts it back there
 abbrev pub CallBy : Kept → Call → Kept → Type 0
 CallBy k (stepped entry numbers answer after) m = StepsPosition (k .position) entry numbers answer (m .position) after × (m .shelf ≡ k .shelf)
 CallBy k (stored name answer) m = Stores (k .shelf) name (k .position) answer (m .shelf) × (m .position ≡ k .position)
@@ -54,11 +54,11 @@ pub record Histories : Type 0 where
 abbrev pub noHistory : Histories
 noHistory = record { own = []; under = λ name. [] }
 
--- "calls refused with 5 or 23 to 26 leave all"
+-- a call refused with 5 or 23 to 26 leaves all
 abbrev pub leavesAll : ℕ → Bool
 leavesAll answer = isIn answer (5 ∷ 23 ∷ 24 ∷ 25 ∷ 26 ∷ [])
 
--- "a step answered with 0, 1 to 4 or 6 to 22 is added to the section's; an accepted store copies it to the name; an accepted fetch copies the name's back"
+-- a step answered with 0, 1 to 4 or 6 to 22 is added to the section's; an accepted store copies it to the name; an accepted fetch copies the name's back
 abbrev pub withCall : Call → Histories → Histories
 withCall (stepped entry numbers answer after) h = cond (leavesAll answer) h (record { own = h .own ++ entry ∷ []; under = h .under })
 withCall (stored name answer) h = cond (leavesAll answer) h (record { own = h .own; under = λ other. cond (sameBytes other name) (h .own) (h .under other) })

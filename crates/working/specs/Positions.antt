@@ -55,7 +55,7 @@ fourAt bytes at = twoAt bytes at * 65536 + twoAt bytes (at + 2)
 
 -- ---- a vehicle
 
--- "kind 1 (2, 3, 4, 5 or 9, as in an entry)", asked, granted and given up; 0 for what the kind has not
+-- what a vehicle left on: the kind by its number in an entry, 2, 3, 4, 5 or 9, asked, granted and given up; 0 for what the kind has not
 abbrev pub movementBytes : Movement → List ℕ
 movementBytes (Open asked) = 2 ∷ asked ∷ 0 ∷ 0 ∷ []
 movementBytes Through = 3 ∷ 0 ∷ 0 ∷ 0 ∷ []
@@ -71,7 +71,7 @@ movementOf kind asked granted givenUp =
     (cond (eqb kind 9) (LastTrain asked granted givenUp)
     (Open asked))))
 
--- "kind 1, sender 1, form number 2, heading 1, met 1, class 1, asked 1, granted 1, given up 1"
+-- ten bytes: kind 1, sender 1, form number 2, heading 1, met 1, class 1, asked 1, granted 1, given up 1
 unfoldable pub vehicleBytes : Vehicle → List ℕ
 vehicleBytes v =
     byteAt (movementBytes (v .movement)) 0
@@ -102,7 +102,7 @@ placesBytes zero l = []
 placesBytes (suc n) [] = replicate 10 0 ++ placesBytes n []
 placesBytes (suc n) (v ∷ l) = vehicleBytes v ++ placesBytes n l
 
--- "The vehicles present are the places before the first zero place": a vehicle's place begins with its kind, which is never 0
+-- the vehicles present are the places before the first zero place: a vehicle's place begins with its kind, which is never 0
 unfoldable pub vehiclesIn : ℕ → List ℕ → List Vehicle
 vehiclesIn zero bytes = []
 vehiclesIn (suc n) bytes = cond (eqb (byteAt bytes 0) 0) [] (vehicleIn (take 10 bytes) ∷ vehiclesIn n (drop 10 bytes))
@@ -130,7 +130,7 @@ intervalBytes interval = runningOf interval ∷ inTwo (minuteOf interval)
 abbrev pub intervalOf : ℕ → ℕ → Interval
 intervalOf running minute = cond (eqb running 1) (Since minute) Stopped
 
--- "clock 2, last 2, sent 1, interval 1 + 2, out 1, guest 1, asked 1, holds 1, owes 1, waiting 1"
+-- fourteen bytes: clock 2, last 2, sent 1, interval 1 + 2, out 1, guest 1, asked 1, holds 1, owes 1, waiting 1
 unfoldable pub deskBytes : Desk → List ℕ
 deskBytes d =
     inTwo (d .clock)
@@ -174,14 +174,14 @@ sameBytes [] (c ∷ cs) = false
 sameBytes (b ∷ bs) [] = false
 sameBytes (b ∷ bs) (c ∷ cs) = eqb b c && sameBytes bs cs
 
--- Bytes are a position that are a well-made section's own, as it is written: 281 of them, "Flags are 0 or 1, a stopped interval is three zeros", zeros behind the vehicles
--- present and for what a kind has not. "Two writings of one section do not exist."
+-- Bytes are a position that are a well-made section's own, as it is written: 281 of them, flags 0 or 1, a stopped interval three zeros, zeros behind the vehicles
+-- present and for what a kind has not. So no section has two writings.
 unfoldable pub isPosition : List ℕ → Bool
 isPosition bytes = sameBytes bytes (positionOf (sectionAt bytes)) && wellMade (sectionAt bytes)
 
 -- ---- the step on a position, for a host
 
--- "A speed's number is a definition of its own for every case"
+-- a speed as a number: its case, and its figures
 abbrev pub speedNumber : Speed → ℕ
 speedNumber NoSpeed = 0
 speedNumber Walking = 65536
@@ -198,12 +198,12 @@ abbrev pub refusalOf : Answer → ℕ
 refusalOf (answer.Refused why) = numberOf why
 refusalOf (answer.Accepted form forms speed) = 0
 
--- "form number, forms and speed as numbers", at the front of those lent; "A refused step, whatever its number, leaves the three numbers as they were"
+-- form number, forms and speed as numbers, at the front of those lent; a refused step leaves them as they were
 abbrev pub answerIn : Answer → List ℕ → List ℕ
 answerIn (answer.Refused why) numbers = numbers
 answerIn (answer.Accepted form forms speed) numbers = pasted numbers 0 (form ∷ forms ∷ speedNumber speed ∷ [])
 
--- "26 position, 23 fewer than three numbers"
+-- 26, then 23: fewer than three numbers
 abbrev pub stepTests : List ℕ → List ℕ → List Test
 stepTests position numbers =
     (not (isPosition position), NoPosition)  -- 26

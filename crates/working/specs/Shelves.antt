@@ -55,7 +55,7 @@ isAmong title (suc n) places = sameBytes (titleIn places) title || isAmong title
 unfoldable pub usedWell : ℕ → List ℕ → Bool
 usedWell n places = every (isTitle (titleIn places) ∷ isPosition (positionIn places) ∷ not (isAmong (titleIn places) n (drop 293 places)) ∷ [])
 
--- so many places: "used places first .. no name twice, the rest zero"
+-- so many places, the used ones first: "no name twice, the rest zero"
 unfoldable pub placesMade : ℕ → List ℕ → Bool
 placesMade zero places = true
 placesMade (suc n) places = cond (isZero (take 293 places)) (isZero places) (usedWell n places && placesMade n (drop 293 places))
@@ -99,7 +99,7 @@ fetchTests shelf name buffer =
     ∷ (ltb (length buffer) 281, BufferTooShort)  -- 23
     ∷ []
 
--- "the position at the buffer's front; bytes behind it keep their values"
+-- the position at the buffer's front; bytes behind it keep their values
 abbrev pub fetchedFrom : List ℕ → List ℕ → List ℕ → List ℕ
 fetchedFrom shelf name buffer = pasted buffer 0 (positionIn (drop (293 * placeNamed shelf name) shelf))
 

@@ -135,7 +135,7 @@ givenUpBy s x = sumOver (ofStation x (λ v. givenUpIn (v .movement))) (vehiclesO
 
 -- ---- neighbouring entries
 
--- a step that is an accepted entry of station x and no MEET: an OPEN, THROUGH, RETURN, TRAIN or RECEIVE. "BEGIN and RESUME belong to neither station."
+-- a step that is an accepted entry of station x and no MEET: an OPEN, THROUGH, RETURN, TRAIN, LAST TRAIN or RECEIVE. "BEGIN and RESUME belong to neither station."
 pub record AcceptedAt (d : Done) (x : Station) (act : Act) : Type 0 where
   pub time : ℕ
   pub entry : decode (d .bytes) ≡ Says (At x time act)

@@ -166,7 +166,8 @@ module _ {w w₁ : List ℕ} {e : Entry} {act : Act} {given : Answer} where
 
 -- a departure that no test refuses has a form number left, and room for one more sent
 pub may-leave : {w : List ℕ} {e : Entry} {act : Act} (p : Passed w e act) (tests : List Test) → let l = p .looked in
-    ownBy l act ≡ tests ++ lastTests (l .desk .sent) (l .desk .last) (l .desk .interval) (e .time) → p .own ≡ Allowed → (l .desk ≡ deskOf (sectionIn w) (l .at)) × (l .desk .last < 9999) × (l .desk .sent < 12)
+    ownBy l act ≡ tests ++ lastTests (l .desk .sent) (l .desk .last) (l .desk .interval) (e .time) → p .own ≡ Allowed
+    → (l .desk ≡ deskOf (sectionIn w) (l .at)) × (l .desk .last < 9999) × (l .desk .sent < 12)
 may-leave {e = e} p tests are is =
     let d = p .looked .desk in
     let last = lastTests (d .sent) (d .last) (d .interval) (e .time) in

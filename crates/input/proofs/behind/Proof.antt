@@ -1,4 +1,4 @@
--- `input::behind` meets its contract: each arm is the definition's own.
+-- `input::behind` meets its contract: no bytes end the input, some go on, a failed read fails, and an interrupted one is tried again where patience is not 0, so that 1 can be taken from it.
 -- Assumes nothing.
 use Rattle.input.proofs.behind.Statement.{statement}
 use Rattle.input.proofs.behind.Tie as tie

@@ -1,4 +1,4 @@
--- `lupinshift::listing_room` meets its contract: each answer is the definition's at the test that led to it.
+-- `lupinshift::listing_room` meets its contract: the length is compared with 65,536, as in the definition, and 25 times a length up to that is far below 2^64.
 -- Assumes nothing.
 use Rattle.lupinshift.proofs.listing_room.Statement.{statement}
 use Rattle.lupinshift.proofs.listing_room.Tie as tie

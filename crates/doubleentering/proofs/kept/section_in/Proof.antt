@@ -1,4 +1,4 @@
--- `kept::section_in` meets its contract: each figure is read as the definition reads it.
+-- `kept::section_in` meets its contract: force and the counts are what `in_force` and `refused` read off the words, and each side is what `side_in` reads.
 -- Assumes nothing.
 use Rattle.doubleentering.proofs.kept.section_in.Statement.{statement}
 use Rattle.doubleentering.proofs.kept.section_in.Tie as tie

@@ -1,4 +1,4 @@
--- `made::is_fresh` meets its contract: the code joins the definition's tests in its order.
+-- `made::is_fresh` meets its contract: clock, last form number, the interval's number and the trains on the line are compared with 0, in the definition's order.
 -- Assumes nothing.
 use Rattle.doubleentering.proofs.made.is_fresh.Statement.{statement}
 use Rattle.doubleentering.proofs.made.is_fresh.Tie as tie

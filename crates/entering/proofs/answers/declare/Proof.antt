@@ -1,4 +1,4 @@
--- `answers::declare` meets its contract: each case of the verdict has the definition's end.
+-- `answers::declare` meets its contract: a refusal of BEGIN or RESUME is counted by `refuse` for no station; where the verdict is allowed, `empty` makes all but the counts anew.
 -- Assumes nothing.
 use Rattle.entering.proofs.answers.declare.Statement.{statement}
 use Rattle.entering.proofs.answers.declare.Tie as tie

@@ -1,4 +1,4 @@
--- `step::fields::view_of` meets its contract.
+-- `fields::view_of` meets its contract: the number is compared with 1, a clear day, and then with 2, night or obstructed, in the definition's order; any other is impaired weather.
 -- Assumes nothing.
 use Rattle.entering.proofs.fields.view_of.Statement.{statement}
 use Rattle.entering.proofs.fields.view_of.Tie as tie

@@ -1,4 +1,5 @@
--- `doubles::side_in` meets its contract: each figure is read at its place.
+-- `doubles::side_in` meets its contract: each figure and the twelve numbers are read at their offsets from the side's first byte; the side lies within the head,
+-- so that no offset passes its end.
 -- Assumes nothing.
 use Rattle.figures.proofs.doubles.side_in.Statement.{statement}
 use Rattle.figures.proofs.doubles.side_in.Tie as tie

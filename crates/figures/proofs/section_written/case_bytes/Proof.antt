@@ -1,4 +1,4 @@
--- `section_written::case_bytes` meets its contract: each figure is put at its place.
+-- `section_written::case_bytes` meets its contract: the places are put over zeros, and behind them the number present and force, the counts and the desks, in the definition's order.
 -- Assumes nothing.
 use Rattle.figures.proofs.section_written.case_bytes.Statement.{statement}
 use Rattle.figures.proofs.section_written.case_bytes.Tie as tie

@@ -1,4 +1,4 @@
--- `section_written::vehicle_figures` meets its contract: the test is the definition's own.
+-- `section_written::vehicle_figures` meets its contract: `is_unused` says what the definition tests: ten zeros for an unused place, and for any other the bytes that `vehicle_bytes` gives.
 -- Assumes nothing.
 use Rattle.figures.proofs.section_written.vehicle_figures.Statement.{statement}
 use Rattle.figures.proofs.section_written.vehicle_figures.Tie as tie

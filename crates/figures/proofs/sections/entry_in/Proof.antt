@@ -1,4 +1,4 @@
--- `sections::entry_in` meets its contract: each figure is read at its place.
+-- `sections::entry_in` meets its contract: the map and seven fields are single bytes, time and form number two bytes that `number_at` joins, each at the definition's offset in the head.
 -- Assumes nothing.
 use Rattle.figures.proofs.sections.entry_in.Statement.{statement}
 use Rattle.figures.proofs.sections.entry_in.Tie as tie

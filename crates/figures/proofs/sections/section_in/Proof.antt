@@ -1,4 +1,4 @@
--- `sections::section_in` meets its contract: each figure is read at its place.
+-- `sections::section_in` meets its contract: the vehicles, the counts and the desks are what their own functions read, and the number present and force are the bytes at their offsets.
 -- Assumes nothing.
 use Rattle.figures.proofs.sections.section_in.Statement.{statement}
 use Rattle.figures.proofs.sections.section_in.Tie as tie

@@ -1,4 +1,4 @@
--- `line_text::letter_at` meets its contract: the tests are the definition's.
+-- `line_text::letter_at` meets its contract: the number is compared with 1, for A, and then with 2, for B, in the definition's order; any other is a hyphen.
 -- Assumes nothing.
 use Rattle.listing.proofs.line_text.letter_at.Statement.{statement}
 use Rattle.listing.proofs.line_text.letter_at.Tie as tie

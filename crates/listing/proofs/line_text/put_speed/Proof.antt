@@ -1,4 +1,5 @@
--- `line_text::put_speed` meets its contract: each arm is the definition's own.
+-- `line_text::put_speed` meets its contract: none, walking pace and booked are one sign each, put by `put_bytes`, one figure is put by `put_field` and two by `put_both`;
+-- each is the definition's text of that speed.
 -- Assumes nothing.
 use Rattle.listing.proofs.line_text.put_speed.Statement.{statement}
 use Rattle.listing.proofs.line_text.put_speed.Tie as tie

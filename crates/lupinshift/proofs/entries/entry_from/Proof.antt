@@ -1,4 +1,4 @@
--- `entries::entry_from` meets its contract: each field is read at its place.
+-- `entries::entry_from` meets its contract: ten numbers, each read at its index; time and form number as they stand, the others by `byte_of`, which gives 255 for any above.
 -- Assumes nothing.
 use Rattle.lupinshift.proofs.entries.entry_from.Statement.{statement}
 use Rattle.lupinshift.proofs.entries.entry_from.Tie as tie

@@ -1,4 +1,4 @@
--- `desks::counts_in` meets its contract: each count is read at its place.
+-- `desks::counts_in` meets its contract: `four` makes a count of each four of the twelve bytes: A's, B's, and that of no station.
 -- Assumes nothing.
 use Rattle.position.proofs.desks.counts_in.Statement.{statement}
 use Rattle.position.proofs.desks.counts_in.Tie as tie

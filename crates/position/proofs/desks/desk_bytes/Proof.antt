@@ -1,4 +1,5 @@
--- `desks::desk_bytes` meets its contract: each figure is written at its place.
+-- `desks::desk_bytes` meets its contract: clock and last form number are two bytes each by `in_two`, the interval three by `interval_bytes`, and the other seven figures one each,
+-- out by `one_if`.
 -- Assumes nothing.
 use Rattle.position.proofs.desks.desk_bytes.Statement.{statement}
 use Rattle.position.proofs.desks.desk_bytes.Tie as tie

@@ -1,4 +1,4 @@
--- `desks::desk_in` meets its contract: each figure is read at its place.
+-- `desks::desk_in` meets its contract: `two` joins the pairs of clock, last form number and the interval's minute, `interval_of` looks at the flag, and each other figure is one byte.
 -- Assumes nothing.
 use Rattle.position.proofs.desks.desk_in.Statement.{statement}
 use Rattle.position.proofs.desks.desk_in.Tie as tie

@@ -1,4 +1,4 @@
--- `desks::interval_bytes` meets its contract: each arm is the definition's own.
+-- `desks::interval_bytes` meets its contract: three zeros where no interval is running, and else 1 and the two bytes that `in_two` gives of its minute.
 -- Assumes nothing.
 use Rattle.position.proofs.desks.interval_bytes.Statement.{statement}
 use Rattle.position.proofs.desks.interval_bytes.Tie as tie

@@ -1,4 +1,5 @@
--- `sections::section_at` meets its contract: each figure is read at its place.
+-- `sections::section_at` meets its contract: `present_at` says how many are present; the places, the counts and the desks are what their own functions read,
+-- and force is its byte compared with 1.
 -- Assumes nothing.
 use Rattle.position.proofs.sections.section_at.Statement.{statement}
 use Rattle.position.proofs.sections.section_at.Tie as tie

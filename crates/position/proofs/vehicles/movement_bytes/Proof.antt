@@ -1,4 +1,4 @@
--- `vehicles::movement_bytes` meets its contract: each arm is the definition's own.
+-- `vehicles::movement_bytes` meets its contract: the kind's number, then asked, granted and given up, with 0 for what a vehicle of that kind does not carry, kind by kind.
 -- Assumes nothing.
 use Rattle.position.proofs.vehicles.movement_bytes.Statement.{statement}
 use Rattle.position.proofs.vehicles.movement_bytes.Tie as tie

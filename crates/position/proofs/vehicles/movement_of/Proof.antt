@@ -1,4 +1,4 @@
--- `vehicles::movement_of` meets its contract: the tests are the definition's own, in its order.
+-- `vehicles::movement_of` meets its contract: the kind is compared with THROUGH, RETURN, TRAIN and LAST TRAIN in the definition's order, and what is none of them is an OPEN.
 -- Assumes nothing.
 use Rattle.position.proofs.vehicles.movement_of.Statement.{statement}
 use Rattle.position.proofs.vehicles.movement_of.Tie as tie

@@ -1,4 +1,5 @@
--- `vehicles::vehicle_bytes` meets its contract: each figure is written at its place.
+-- `vehicles::vehicle_bytes` meets its contract: `movement_bytes` gives the kind and the last three bytes, `in_two` the form number, `one_if` met,
+-- and sender, heading and class are one byte each.
 -- Assumes nothing.
 use Rattle.position.proofs.vehicles.vehicle_bytes.Statement.{statement}
 use Rattle.position.proofs.vehicles.vehicle_bytes.Tie as tie

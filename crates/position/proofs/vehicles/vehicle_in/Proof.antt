@@ -1,4 +1,5 @@
--- `vehicles::vehicle_in` meets its contract: each figure is read at its place.
+-- `vehicles::vehicle_in` meets its contract: `movement_of` takes the kind and the last three bytes, `two` joins the form number, met is compared with 1,
+-- and the other figures are one byte each.
 -- Assumes nothing.
 use Rattle.position.proofs.vehicles.vehicle_in.Statement.{statement}
 use Rattle.position.proofs.vehicles.vehicle_in.Tie as tie

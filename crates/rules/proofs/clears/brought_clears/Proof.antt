@@ -1,4 +1,4 @@
--- `clears::brought_clears` meets its contract: each figure is the definition's.
+-- `clears::brought_clears` meets its contract: `if_any` puts what the vehicle asks for in the place of asked where it is above 0; holds stays, and owes is the figure passed.
 -- Assumes nothing.
 use Rattle.rules.proofs.clears.brought_clears.Statement.{statement}
 use Rattle.rules.proofs.clears.brought_clears.Tie as tie

@@ -1,4 +1,4 @@
--- `clears::clears_left` meets its contract: the test is the definition's.
+-- `clears::clears_left` meets its contract: none where the train is endorsed as the last, and else one less, by `lowered`, which ends at 0 as the definition's subtraction does.
 -- Assumes nothing.
 use Rattle.rules.proofs.clears.clears_left.Statement.{statement}
 use Rattle.rules.proofs.clears.clears_left.Tie as tie

@@ -1,4 +1,4 @@
--- `clears::if_any` meets its contract: the test is the definition's.
+-- `clears::if_any` meets its contract: the number is compared with 0, as in the definition; one above it takes the place of what stood there.
 -- Assumes nothing.
 use Rattle.rules.proofs.clears.if_any.Statement.{statement}
 use Rattle.rules.proofs.clears.if_any.Tie as tie

@@ -1,4 +1,4 @@
--- `clears::return_clears` meets its contract: each figure is the definition's.
+-- `clears::return_clears` meets its contract: asked becomes 0 and holds stays; `if_any` puts what is granted in the place of owes where it is above 0.
 -- Assumes nothing.
 use Rattle.rules.proofs.clears.return_clears.Statement.{statement}
 use Rattle.rules.proofs.clears.return_clears.Tie as tie

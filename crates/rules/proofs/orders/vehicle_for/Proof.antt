@@ -1,4 +1,4 @@
--- `rules::vehicle_for` meets its contract: the sender is the station, and the heading the other.
+-- `orders::vehicle_for` meets its contract: the sender is the number of the station and the heading that of the other, as `station_number` and `other` give them.
 -- Assumes nothing.
 use Rattle.rules.proofs.orders.vehicle_for.Statement.{statement}
 use Rattle.rules.proofs.orders.vehicle_for.Tie as tie

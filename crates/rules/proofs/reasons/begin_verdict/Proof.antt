@@ -1,4 +1,4 @@
--- `reasons::begin_verdict` meets its contract: the tests are the definition's, from the first to the last, and the first that holds says why.
+-- `reasons::begin_verdict` meets its contract: the one test of a BEGIN is whether the working is in force (6).
 -- Assumes nothing.
 use Rattle.rules.proofs.reasons.begin_verdict.Statement.{statement}
 use Rattle.rules.proofs.reasons.begin_verdict.Tie as tie

@@ -1,4 +1,4 @@
--- `reasons::is_under` meets its contract: each arm is the definition's own, and the sum fits 32 bits.
+-- `reasons::is_under` meets its contract: a stopped interval is none; of a running one the time is compared with its minute and 30 more, a sum of 16-bit numbers that fits 32 bits.
 -- Assumes nothing.
 use Rattle.rules.proofs.reasons.is_under.Statement.{statement}
 use Rattle.rules.proofs.reasons.is_under.Tie as tie

@@ -1,4 +1,5 @@
--- `reasons::last_verdict` meets its contract: the tests are the definition's, from the first to the last, and the first that holds says why.
+-- `reasons::last_verdict` meets its contract: the count is compared with 12 (17), the last form number with 9,999 (18), and `is_under` looks at the interval (19);
+-- each test where those before it do not hold.
 -- Assumes nothing.
 use Rattle.rules.proofs.reasons.last_verdict.Statement.{statement}
 use Rattle.rules.proofs.reasons.last_verdict.Tie as tie

@@ -1,4 +1,4 @@
--- `reasons::may_enter` meets its contract: the sender says which test it is.
+-- `reasons::may_enter` meets its contract: the sender is compared with the station's number: its own must be an OPEN or a THROUGH, and unmet or heading here, and the other's must head here.
 -- Assumes nothing.
 use Rattle.rules.proofs.reasons.may_enter.Statement.{statement}
 use Rattle.rules.proofs.reasons.may_enter.Tie as tie

@@ -1,4 +1,5 @@
--- `reasons::open_verdict` meets its contract: the tests are the definition's, from the first to the last, and the first that holds says why.
+-- `reasons::open_verdict` meets its contract: out (10), holds (11), owes (12) and guest (13) are tested in the definition's order, the three figures against 0,
+-- each where those before do not hold.
 -- Assumes nothing.
 use Rattle.rules.proofs.reasons.open_verdict.Statement.{statement}
 use Rattle.rules.proofs.reasons.open_verdict.Tie as tie

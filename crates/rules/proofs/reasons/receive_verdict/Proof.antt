@@ -1,4 +1,4 @@
--- `reasons::receive_verdict` meets its contract: the tests are the definition's, from the first to the last, and the first that holds says why.
+-- `reasons::receive_verdict` meets its contract: `is_named` says whether the nearest vehicle is the one named (20), and where it is, `may_enter` whether it may enter (21).
 -- Assumes nothing.
 use Rattle.rules.proofs.reasons.receive_verdict.Statement.{statement}
 use Rattle.rules.proofs.reasons.receive_verdict.Tie as tie

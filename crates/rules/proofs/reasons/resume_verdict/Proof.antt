@@ -1,4 +1,4 @@
--- `reasons::resume_verdict` meets its contract: the tests are the definition's, from the first to the last, and the first that holds says why.
+-- `reasons::resume_verdict` meets its contract: whether the working is in force (7), and then the number present against 0 (8).
 -- Assumes nothing.
 use Rattle.rules.proofs.reasons.resume_verdict.Statement.{statement}
 use Rattle.rules.proofs.reasons.resume_verdict.Tie as tie

@@ -1,4 +1,4 @@
--- `reasons::return_verdict` meets its contract: the tests are the definition's, from the first to the last, and the first that holds says why.
+-- `reasons::return_verdict` meets its contract: guest is compared with 0 (14), and then granted with asked at the desk (16).
 -- Assumes nothing.
 use Rattle.rules.proofs.reasons.return_verdict.Statement.{statement}
 use Rattle.rules.proofs.reasons.return_verdict.Tie as tie

@@ -1,4 +1,4 @@
--- `reasons::station_verdict` meets its contract: the tests are the definition's, from the first to the last, and the first that holds says why.
+-- `reasons::station_verdict` meets its contract: whether the working is in force (7), and then the entry's minute against the clock (9).
 -- Assumes nothing.
 use Rattle.rules.proofs.reasons.station_verdict.Statement.{statement}
 use Rattle.rules.proofs.reasons.station_verdict.Tie as tie

@@ -1,4 +1,4 @@
--- `reasons::train_verdict` meets its contract: the tests are the definition's, from the first to the last, and the first that holds says why.
+-- `reasons::train_verdict` meets its contract: holds is compared with 0 (15), and then granted with asked, and with 0 while the station owes (16).
 -- Assumes nothing.
 use Rattle.rules.proofs.reasons.train_verdict.Statement.{statement}
 use Rattle.rules.proofs.reasons.train_verdict.Tie as tie

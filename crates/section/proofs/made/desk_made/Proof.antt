@@ -1,4 +1,5 @@
--- `made::desk_made` meets its contract: the code joins the definition's tests in its order.
+-- `made::desk_made` meets its contract: the figures are compared with their largest values, the tally's count with sent, and `is_not_later` looks at the interval;
+-- the tests stand in the definition's order.
 -- Assumes nothing.
 use Rattle.section.proofs.made.desk_made.Statement.{statement}
 use Rattle.section.proofs.made.desk_made.Tie as tie

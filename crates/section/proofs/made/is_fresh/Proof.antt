@@ -1,4 +1,4 @@
--- `made::is_fresh` meets its contract: the figures of the desk are the definition's.
+-- `made::is_fresh` meets its contract: `Desk::figures` lists the ten figures that the definition lists, and `all_zero` compares each with 0.
 -- Assumes nothing.
 use Rattle.section.proofs.made.is_fresh.Statement.{statement}
 use Rattle.section.proofs.made.is_fresh.Tie as tie

@@ -1,4 +1,4 @@
--- `made::is_not_later` meets its contract: each arm is the definition's own.
+-- `made::is_not_later` meets its contract: a stopped interval is never later than the clock, and of a running one the minute is compared with it.
 -- Assumes nothing.
 use Rattle.section.proofs.made.is_not_later.Statement.{statement}
 use Rattle.section.proofs.made.is_not_later.Tie as tie

@@ -1,4 +1,4 @@
--- `section::well_made` meets its contract: a length beyond the places fails the first test, and within them the code joins
+-- `made::well_made` meets its contract: a length beyond the places fails the first test, and within them the code joins
 -- the definition's tests in its order, each as its own function found it.
 -- Assumes nothing.
 use Rattle.section.proofs.made.well_made.Statement.{statement}

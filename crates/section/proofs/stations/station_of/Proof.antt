@@ -1,4 +1,4 @@
--- `stations::station_of` meets its contract: the test of the number is the definition's.
+-- `stations::station_of` meets its contract: the number is compared with 1, which is A, as in the definition; any other is B.
 -- Assumes nothing.
 use Rattle.section.proofs.stations.station_of.Statement.{statement}
 use Rattle.section.proofs.stations.station_of.Tie as tie

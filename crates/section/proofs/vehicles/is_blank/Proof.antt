@@ -1,4 +1,4 @@
--- `vehicles::is_blank` meets its contract: the code joins the definition's tests in its order.
+-- `vehicles::is_blank` meets its contract: `is_blank_movement` tests what it left on, and the other figures are compared with 0; the tests stand in the definition's order.
 -- Assumes nothing.
 use Rattle.section.proofs.vehicles.is_blank.Statement.{statement}
 use Rattle.section.proofs.vehicles.is_blank.Tie as tie

@@ -1,4 +1,4 @@
--- `vehicles::is_blank_movement` meets its contract: each arm is the definition's own.
+-- `vehicles::is_blank_movement` meets its contract: an OPEN is that of an unused place where it asks for nothing; no other movement is.
 -- Assumes nothing.
 use Rattle.section.proofs.vehicles.is_blank_movement.Statement.{statement}
 use Rattle.section.proofs.vehicles.is_blank_movement.Tie as tie

@@ -1,4 +1,4 @@
--- `section::is_named` meets its contract: both figures are compared.
+-- `vehicles::is_named` meets its contract: the vehicle's sender is compared with the number of the station named, which `station_number` gives, and its form number with the one named.
 -- Assumes nothing.
 use Rattle.section.proofs.vehicles.is_named.Statement.{statement}
 use Rattle.section.proofs.vehicles.is_named.Tie as tie

@@ -1,4 +1,5 @@
--- `vehicles::is_shaped` meets its contract: the code joins the definition's tests in its order.
+-- `vehicles::is_shaped` meets its contract: sender and heading are 1 or 2, an unmet vehicle heads away, none but an OPEN or a THROUGH is met, and `movement_made` tests the rest,
+-- in the definition's order.
 -- Assumes nothing.
 use Rattle.section.proofs.vehicles.is_shaped.Statement.{statement}
 use Rattle.section.proofs.vehicles.is_shaped.Tie as tie

@@ -1,4 +1,4 @@
--- `names::is_name` meets its contract: its tests are the definition's.
+-- `names::is_name` meets its contract: the length is compared with 1 and 12, and with the capital letters that `letters_in` counts at the front.
 -- Assumes nothing.
 use Rattle.shelf.proofs.names.is_name.Statement.{statement}
 use Rattle.shelf.proofs.names.is_name.Tie as tie

@@ -1,4 +1,4 @@
--- `shelves::is_shelf` meets its contract: its tests are the definition's.
+-- `shelves::is_shelf` meets its contract: the length is compared with 4,688, and of that length `places_made` tests the 16 places.
 -- Assumes nothing.
 use Rattle.shelf.proofs.shelves.is_shelf.Statement.{statement}
 use Rattle.shelf.proofs.shelves.is_shelf.Tie as tie

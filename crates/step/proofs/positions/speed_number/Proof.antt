@@ -1,4 +1,5 @@
--- `positions::speed_number` meets its contract: each arm is the definition's own.
+-- `positions::speed_number` meets its contract: each kind of speed has its own base, to which one figure is added, or 256 times the first of two and the second;
+-- figures of one byte, so that the sums fit 32 bits.
 -- Assumes nothing.
 use Rattle.step.proofs.positions.speed_number.Statement.{statement}
 use Rattle.step.proofs.positions.speed_number.Tie as tie

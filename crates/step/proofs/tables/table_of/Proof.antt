@@ -1,4 +1,4 @@
--- `tables::table_of` meets its contract: the test is the definition's.
+-- `tables::table_of` meets its contract: the flag chooses: a double line's table where it is set, and else a single line's.
 -- Assumes nothing.
 use Rattle.step.proofs.tables.table_of.Statement.{statement}
 use Rattle.step.proofs.tables.table_of.Tie as tie

@@ -1,4 +1,4 @@
--- `desks::count` meets its contract: the word at its place says so.
+-- `desks::count` meets its contract: the word at the place that `count_place` gives, modulo 2^32 as in the definition, so that it fits 32 bits.
 -- Assumes nothing.
 use Rattle.words.proofs.desks.count.Statement.{statement}
 use Rattle.words.proofs.desks.count.Tie as tie

@@ -1,4 +1,4 @@
--- `desks::count_place` meets its contract: each arm is the definition's.
+-- `desks::count_place` meets its contract: the counts of A, of B and of no station lie in three words, one behind another, before the word of the ring's start.
 -- Assumes nothing.
 use Rattle.words.proofs.desks.count_place.Statement.{statement}
 use Rattle.words.proofs.desks.count_place.Tie as tie

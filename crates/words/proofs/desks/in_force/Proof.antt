@@ -1,4 +1,4 @@
--- `desks::in_force` meets its contract: the word says so.
+-- `desks::in_force` meets its contract: the word of force is compared with 1, as where the definition reads a section off the words.
 -- Assumes nothing.
 use Rattle.words.proofs.desks.in_force.Statement.{statement}
 use Rattle.words.proofs.desks.in_force.Tie as tie

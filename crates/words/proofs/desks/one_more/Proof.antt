@@ -1,4 +1,4 @@
--- `desks::one_more` meets its contract: each arm is the definition at the test that led there.
+-- `desks::one_more` meets its contract: the count is compared with 4,294,967,295, as in the definition: below it 1 more fits 32 bits, and at it the count stays.
 -- Assumes nothing.
 use Rattle.words.proofs.desks.one_more.Statement.{statement}
 use Rattle.words.proofs.desks.one_more.Tie as tie

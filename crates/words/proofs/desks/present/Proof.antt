@@ -1,4 +1,4 @@
--- `desks::present` meets its contract: the word says so.
+-- `desks::present` meets its contract: the first word is the number present, as where the definition reads a section off the words.
 -- Assumes nothing.
 use Rattle.words.proofs.desks.present.Statement.{statement}
 use Rattle.words.proofs.desks.present.Tie as tie

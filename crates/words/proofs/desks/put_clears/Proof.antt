@@ -1,4 +1,4 @@
--- `desks::put_clears` meets its contract: three words of the desk, each in range of its type.
+-- `desks::put_clears` meets its contract: `put` stores asked, holds and owes in their three words; each is below 256, so that it is read back as it was put.
 -- Assumes nothing.
 use Prim.Native.Nat.{_%_}
 use Rattle.words.proofs.DeskWords.{desk-becomes, put-next}

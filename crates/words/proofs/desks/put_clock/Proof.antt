@@ -1,4 +1,4 @@
--- `desks::put_clock` meets its contract: one word of the desk, in range of its type.
+-- `desks::put_clock` meets its contract: `put` stores the clock in its word; a minute is below 65,536, so that it is read back as it was put.
 -- Assumes nothing.
 use Prim.Native.Nat.{_%_}
 use Rattle.words.proofs.DeskWords.{desk-becomes, ring-kept}

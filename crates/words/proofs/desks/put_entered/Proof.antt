@@ -1,4 +1,5 @@
--- `desks::put_entered` meets its contract: four words of the desk, each in range of its type.
+-- `desks::put_entered` meets its contract: `put` stores clock, last form number, sent and the interval's number in their four words;
+-- the first three fit their types, and the interval is read back from its number.
 -- Assumes nothing.
 use Prim.Native.Nat.{_%_}
 use Rattle.words.proofs.DeskWords.{desk-becomes, interval-back, put-next, ring-kept}

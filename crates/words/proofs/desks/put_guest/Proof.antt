@@ -1,4 +1,4 @@
--- `desks::put_guest` meets its contract: one word of the desk, in range of its type.
+-- `desks::put_guest` meets its contract: `put` stores the guest's class in its word; it is below 256, so that it is read back as it was put.
 -- Assumes nothing.
 use Prim.Native.Nat.{_%_}
 use Rattle.words.proofs.DeskWords.{desk-becomes}

@@ -1,4 +1,4 @@
--- `desks::put_receipt` meets its contract: three words of the desk, each in range of its type.
+-- `desks::put_receipt` meets its contract: `put` stores clock, sent and 0 for the interval in their three words; each fits its type, so that it is read back as it was put.
 -- Assumes nothing.
 use Prim.Native.Nat.{_%_}
 use Rattle.words.proofs.DeskWords.{desk-becomes, put-next}

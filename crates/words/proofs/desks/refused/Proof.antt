@@ -1,4 +1,4 @@
--- `desks::refused` meets its contract: the words say so.
+-- `desks::refused` meets its contract: `count` reads the three counts, as the definition does where it reads a section off the words.
 -- Assumes nothing.
 use Rattle.words.proofs.desks.refused.Statement.{statement}
 use Rattle.words.proofs.desks.refused.Tie as tie

@@ -1,4 +1,4 @@
--- `kept::section_in` meets its contract: each figure is read as the definition reads it.
+-- `kept::section_in` meets its contract: the places, the number present, force, the counts and the desks are what their own functions read off the words.
 -- Assumes nothing.
 use Rattle.words.proofs.kept.section_in.Statement.{statement}
 use Rattle.words.proofs.kept.section_in.Tie as tie

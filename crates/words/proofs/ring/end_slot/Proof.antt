@@ -1,4 +1,4 @@
--- `ring::end_slot` meets its contract: each arm is the definition's own.
+-- `ring::end_slot` meets its contract: at A it is the start, and at B the slot that `slot_of` gives, as many slots on as there are others; both are slots of the ring.
 -- Assumes nothing.
 use Rattle.words.proofs.ring.end_slot.Statement.{statement}
 use Rattle.words.proofs.ring.end_slot.Tie as tie

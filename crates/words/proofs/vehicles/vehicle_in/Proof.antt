@@ -1,4 +1,4 @@
--- `vehicles::vehicle_in` meets its contract: each figure is taken as the definition takes it.
+-- `vehicles::vehicle_in` meets its contract: `movement_in` reads the second word, and the other figures are parts of the first, divided out as in the definition.
 -- Assumes nothing.
 use Rattle.words.proofs.vehicles.vehicle_in.Statement.{statement}
 use Rattle.words.proofs.vehicles.vehicle_in.Tie as tie

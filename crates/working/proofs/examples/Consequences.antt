@@ -59,7 +59,7 @@ leftBy l i = departureOf (done fresh l) (there l i)
 abbrev pub departure : Station → Kind → ℕ → ℕ → Speed → Departure
 departure station kind number forms speed = record { station = station; kind = kind; number = number; forms = forms; speed = speed }
 
--- station x opens, asking for two trains. The other's RETURN asks for three and grants the two. x takes it, and sends both trains, the second granting the three.
+-- station x opens, asking for two trains. The other's RETURN asks for three and grants the two. x receives it, and sends both trains, the second granting the three.
 abbrev granting : Station → List (List ℕ)
 granting x = opens (numberAt x) 0 1 2 ∷ receive (numberAt (otherAt x)) 60 (numberAt x) 1 ∷ returnsAsking (numberAt (otherAt x)) 61 3 2 ∷ []
 

@@ -68,7 +68,7 @@ its-departure B = left (lastSent B) 0 1 refl (omega arith) refl refl
 
 -- ---- released
 
--- station x is granted seven and asked for one; its first train grants the one, and asks for five; the other takes it; then x sends a LAST TRAIN
+-- station x is granted seven and asked for one; its first train grants the one, and asks for five; the other receives it; then x sends a LAST TRAIN
 abbrev replying : Station → List (List ℕ)
 replying x =
     opensAs (numberAt x) 3 1 2 7
@@ -136,7 +136,7 @@ in-figures = refl
 
 -- ---- it changes places with its neighbour
 
--- B takes A's first train, and A sends its LAST TRAIN: in the other order every answer is the same, and the section at the end
+-- B receives A's first train, and A sends its LAST TRAIN: in the other order every answer is the same, and the section at the end
 abbrev firstIn : Done
 firstIn = handed byValue (receive 2 3 1 2) plain
 

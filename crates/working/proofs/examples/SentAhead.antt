@@ -22,7 +22,7 @@ use mathlib.Core.Bool.{false, true}
 use mathlib.Core.List.{List, [], _++_, _∷_}
 use mathlib.Core.Path.{_≡_, refl}
 
--- station x holds two line clears and is asked for three (Consequences). It sends the reply ahead, with the first of its two trains; the other takes that train while it
+-- station x holds two line clears and is asked for three (Consequences). It sends the reply ahead, with the first of its two trains; the other receives that train while it
 -- owes the second, and then the second
 abbrev ahead : Station → List (List ℕ)
 ahead x = holding x ++ trainGranting (numberAt x) 91 3 ∷ train (numberAt x) 121 ∷ []

@@ -1,4 +1,4 @@
--- Well made, seen from station x: its desk d, the other's o, the vehicles l. A vehicle that leaves x with the next form number, and one that is taken at x, keep it so.
+-- Well made, seen from station x: its desk d, the other's o, the vehicles l. A vehicle that leaves x with the next form number, and one that is received at x, keep it so.
 -- Each clause is a law of the vehicles present; there is room for a twenty-fifth vehicle nowhere, since each station has sent at most twelve.
 -- Assumes nothing.
 use Prim.Native.Nat.{_+_, _-_, _<_, _≤_, suc, zero, ℕ}
@@ -101,7 +101,7 @@ well-insert act x d o p l w q =
       };
     }
 
--- v is taken at x: what does not turn on whose it is
+-- v is received at x: what does not turn on whose it is
 module _ (x : Station) (d o e : Desk) (v : Vehicle) (l : List Vehicle) (w : Well x d o (insertAt x v l)) where
   well-rest : ordered l ≡ true → (m : ℕ) → Arrives d e m → countFrom (numberAt x) l ≤ m → m ≤ 12 → Well x e o l
   well-rest order m a count sent = record {

@@ -1,4 +1,5 @@
--- What a taken SingleLine entry's ranges say of its act: the class and what is asked and granted lie where document 01 has them; and how its kind and its station tell whose it is.
+-- What the ranges of an entry that a single line's table takes say of its act: the class and what is asked and granted lie where document 01 has them; and how its kind and
+-- its station tell whose it is.
 -- The kind fixes which bits stand, and a field that is there lies in its range, while one that is absent is 0.
 -- Assumes nothing.
 use Prim.Native.Nat.{_+_, _<_, _≤_, ℕ}
@@ -84,7 +85,7 @@ isBad (Says event) = ⊥
 bad-says : {why : Refusal} {event : Event} → Bad why ≡ Says event → ⊥
 bad-says e = subst isBad e tt
 
--- ---- a taken SingleLine entry
+-- ---- an entry that a single line's table takes
 
 module _ (e : Entry) (allowed : judge SingleLine e ≡ Allowed) where
   known : (1 ≤ e .kind) × (e .kind ≤ 9)

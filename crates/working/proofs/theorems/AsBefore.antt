@@ -106,7 +106,7 @@ own-stays d t (Return a g) = (refl, refl)
 own-stays d t (Train a g) = (refl, refl)
 own-stays d t (LastTrain a g u) = (refl, refl)
 
--- a vehicle v that may enter is taken at x: the desk e after it
+-- a vehicle v that may enter is received at x: the desk e after it
 module _ (x : Station) (d o : Desk) (time : ℕ) (v : Vehicle) (l : List Vehicle)
     (w : Well x d o (insertAt x v l)) (h : Between x d o (insertAt x v l)) (k : RepliesLast x d o (insertAt x v l)) where
   record TakenAs (e : Desk) : Type 0 where

@@ -1,4 +1,4 @@
--- `receipts::arrive` meets its contract: the vehicle is taken, and then its reply is read.
+-- `receipts::arrive` meets its contract: the vehicle is received, and then its reply is read.
 -- Assumes nothing.
 use Rattle.entering.proofs.Becoming.{desk-is}
 use Rattle.entering.proofs.receipts.arrive.Statement.{statement}

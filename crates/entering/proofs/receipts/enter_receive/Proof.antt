@@ -1,4 +1,4 @@
--- `receipts::enter_receive` meets its contract: the tests are the definition's, and where none holds the vehicle is taken and the desk altered by it.
+-- `receipts::enter_receive` meets its contract: the tests are the definition's, and where none holds the vehicle is received and the desk altered by it.
 -- Assumes nothing.
 use Rattle.entering.proofs.Becoming.{Looked, Passed, act-done, desk-behind, first-refused, look, own-refused, pass, vehicles-and-desk}
 use Rattle.entering.proofs.receipts.enter_receive.Statement.{statement}

@@ -64,7 +64,7 @@ use types.SemTy.{Body}
 abbrev stayed : Stays (step-in-place.ended .signature .params) (step-in-place.ended .kept)
 stayed = (stay-ref (0 ∷ []) tt (plain (λ _. T.the-row)), (stay-none-slice (1 ∷ []) tt (plain (λ _. u8)) yes, tt))
 
--- the machine values of a section, of what `step` returns, and of an answer
+-- the machine values of a section, of what `double_step` returns, and of an answer
 abbrev val : Section → Val
 val = LL.val T.the-type T′.the-laws
 
@@ -74,7 +74,7 @@ ret = LL.val R.the-type R′.the-laws
 abbrev ans : Answer → Val
 ans = EL.val N.the-type N′.the-laws
 
--- what whoever holds what `step` returned knows of its answer and of its section
+-- what whoever holds what `double_step` returned knows of its answer and of its section
 parts : (r : Stepped) (u : Val) → Is R.the-row r (u ∷ []) → Is N.the-row (r .answer) (ans (r .answer) ∷ []) × (Is T.the-row (r .section) (val (r .section) ∷ []) × Unit {0})
 parts r u is = LL.owed R.the-type R′.the-laws r (u ∷ []) is
 
@@ -139,7 +139,7 @@ module _ {M : Type 1} (𝓤 : URA M) (H : Heap 𝓤) (A : Atoms 𝓤) (W : Given
         -- what bytes own is had twice, and one goes to the callee, with a section's facts and bytes' token
         move ! (1 ∷ []) $ drop ! $ move ! (5 ∷ []) $ use1 W (‵ Own ⊛ ‵ Own) (shr-slice-copy 𝓤 H A W (named 1) κ′ u8 .twice s (v ∷ [])) $ split ! $
         move ! (6 ∷ []) $ split ! $ move ! (1 ∷ []) $ drop ! $ move ! (1 ∷ 0 ∷ []) $ use2 W (raw (Step 𝓤 H A at-mem run .pre to)) (goes g) $
-        -- [what `step` asks; what bytes own; the cell; the open borrow; obs; auth; true; _4; …; _3; …; _2; …; _1; …; room for _0; …]
+        -- [what `double_step` asks; what bytes own; the cell; the open borrow; obs; auth; true; _4; …; _3; …; _2; …; _1; …; room for _0; …]
         calls-at ! fm (Step 𝓤 H A at-mem run) known to (and-then ! (load ! (from ! (stop !)) (look ! 7 refl)) (and-then ! (load ! (from ! (stop !)) (look ! 11 refl)) (no-more !))) (λ u.
         use1 W (later (some (λ (r : Stepped). ((‵ (flft κ′ q′) ⊛ ‵ ftrue) ⊛ ‵ (R.the-row .own r (u ∷ [])))
         ⊛ raw (ensured 𝓤 H A step.ended (step.clauses 𝓤 H A at-mem run) (κ′, tt) (h, (s, tt)) tt r)))) (id⊢ 𝓤 _) $ await ! tt $ pick ! (λ r.

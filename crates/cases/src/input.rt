@@ -2,7 +2,6 @@
 ghost use Prim.Native.Nat.{_<_, _≤_};
 ghost use Rattle.figures.specs.Figures.{longestHead};
 ghost use Rattle.io.specs.Counts.{Counts};
-ghost use lib.ListN.{length};
 ghost use mathlib.Core.Path.{_≡_};
 use figures::Head;
 use figures::LONGEST_HEAD;

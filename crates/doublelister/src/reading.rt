@@ -1,5 +1,4 @@
 // A log from standard input, by C's read. What each read came to, and what follows it, is decided by `input`.
-ghost use Prim.Native.Nat.{_≤_};
 ghost use Rattle.input.specs.Reading.{Holds, Within, mostRead};
 ghost use lib.ListN.{length};
 ghost use mathlib.Core.Path.{_≡_};

@@ -11,7 +11,7 @@ use Rattle.working.specs.declared.Table.the-variants.{SingleLine}
 use lib.Dec.{ltb}
 use lib.ListN.{getD, length}
 use mathlib.Core.Bool.{cond}
-use mathlib.Core.List.{List, [], _∷_}
+use mathlib.Core.List.{List, _∷_}
 use mathlib.Core.Path.{_≡_}
 
 abbrev pub fieldCount : ℕ

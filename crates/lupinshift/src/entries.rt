@@ -1,5 +1,5 @@
 // An entry of a single line as ten numbers: written into lent bytes, and read from them.
-ghost use Prim.Native.Nat.{_<_, _≤_, min};
+ghost use Prim.Native.Nat.{_≤_, min};
 ghost use Rattle.lupinshift.specs.Fields.{ReadsEntry, WritesEntry, entryFrom, fieldsOf, fieldsRead, numberRead};
 ghost use Rattle.working.specs.Entries.{lengthOf, pasted};
 ghost use lib.ListN.{length};

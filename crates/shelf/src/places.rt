@@ -1,5 +1,5 @@
 // The places of a shelf.
-ghost use Prim.Native.Nat.{_*_, _+_, _-_, _<_, _≤_};
+ghost use Prim.Native.Nat.{_*_, _-_, _<_, _≤_};
 ghost use Rattle.working.specs.Positions.{sameBytes};
 ghost use Rattle.working.specs.Shelves.{isAmong, placeFor, placesMade, titleIn, usedWell};
 ghost use lib.ListN.{drop, length};

@@ -1,5 +1,5 @@
 // Storing and fetching. What is refused alters nothing.
-ghost use Prim.Native.Nat.{_*_, _+_, _<_};
+ghost use Prim.Native.Nat.{_*_, _<_};
 ghost use Rattle.working.specs.Entries.{pasted};
 ghost use Rattle.working.specs.Positions.{ifAllowed};
 ghost use Rattle.working.specs.Refusals.{firstOf};

@@ -1,6 +1,5 @@
 // The step that alters the section in the owner's own memory.
 ghost use Rattle.working.specs.Runs.{StepLeaves};
-ghost use mathlib.Core.Path.{_≡_};
 use crate::stepping::step;
 use working::Answer;
 use working::Section;

@@ -1,24 +1,24 @@
 -- A section put into words: the words of an empty one, then each vehicle present entered at B's end, then the desks; at each step they are the own words of
 -- the section so far. And the places read off them, one after another.
 -- Assumes nothing.
-use Prim.Native.Nat.{_+_, _<_, _≤_, suc, zero, ℕ}
+use Prim.Native.Nat.{_+_, _<_, _≤_, ℕ}
 use Rattle.words.proofs.Becoming.{becomes-as, desk-length, own-then}
 use Rattle.words.proofs.Packing.{one-back}
 use Rattle.words.specs.Words.{DeskBecomes, OwnWords, VehiclesBecome, bySlot, oneBack, sectionIn, slotWords, startOn, wordCount, wordsOf}
 use Rattle.working.proofs.invariant.Made.{vehicles-with}
-use Rattle.working.specs.Sections.{emptied, insertAt, padTo, padWith, unused, vehiclesOf, withDesk, withVehicles}
+use Rattle.working.specs.Sections.{emptied, insertAt, padWith, unused, vehiclesOf, withDesk, withVehicles}
 use Rattle.working.specs.WellMade.{oneIf}
 use Rattle.working.specs.declared.Counts.{Counts}
 use Rattle.working.specs.declared.Desk.{Desk}
 use Rattle.working.specs.declared.Section.{Section}
-use Rattle.working.specs.declared.Station.the-variants.{A, B}
+use Rattle.working.specs.declared.Station.the-variants.{B}
 use Rattle.working.specs.declared.Station.{Station}
 use Rattle.working.specs.declared.Vehicle.{Vehicle}
 use lib.ListN.{getD, length, length-append, replicate, set, take}
 use lib.Seq.{length-take-le, take-suc}
 use mathlib.Core.Bool.{Bool}
-use mathlib.Core.List.{List, [], _++_, _∷_}
-use mathlib.Core.Path.{_∙_, _≡_, ap, refl, sym}
+use mathlib.Core.List.{List, [], _∷_}
+use mathlib.Core.Path.{_∙_, _≡_, ap, refl}
 use native.Mathlib.Nat.{mod-eq-of-lt}
 use native.Mathlib.Numerals.{add-one}
 use native.Mathlib.Omega.{arith}

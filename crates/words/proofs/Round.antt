@@ -12,7 +12,7 @@ use Rattle.working.specs.declared.Station.the-variants.{A, B}
 use Rattle.working.specs.declared.Station.{Station}
 use Rattle.working.specs.declared.Vehicle.{Vehicle}
 use lib.ListN.{List·getD-eq-default, getD, length, length-drop, length-take, set}
-use lib.Seq.{ext-getD, getD-append-seam, getD-drop, getD-set-other, getD-set-same, getD-take, length-take-le}
+use lib.Seq.{getD-append-seam, getD-drop, getD-set-other, getD-set-same, getD-take, length-take-le}
 use mathlib.Core.List.{List, [], _++_, _∷_}
 use mathlib.Core.Path.{_∙_, _≡_, ap, refl, sym}
 use native.Mathlib.Decide.{decLe, ℕ-discrete}

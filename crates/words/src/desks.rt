@@ -1,8 +1,8 @@
 // What a section holds but for its vehicles, in lent words: how many they are, in force, entries refused, the ring's start, and a word for each figure of the two desks.
-ghost use Prim.Native.Nat.{_+_, _<_, _≤_};
+ghost use Prim.Native.Nat.{_<_, _≤_};
 ghost use Rattle.words.specs.Stores.{DeskPut};
 ghost use Rattle.words.specs.Words.{Becomes, DeskBecomes, RingKept, sectionIn, startIn, startPlace, withClock, withDeparture, withReceipt, withSent};
-ghost use Rattle.words.specs.Words.{countIn, countPlace, deskFrom, deskRead, deskWordsIn, intervalIn};
+ghost use Rattle.words.specs.Words.{countIn, countPlace, deskFrom, deskRead, intervalIn};
 ghost use Rattle.working.specs.Sections.{countRefusal, deskOf, oneMore, withClears, withEntered, withGuest, withInterval, withOut, withWaiting};
 ghost use Rattle.working.specs.WellMade.{deskLength};
 ghost use Rattle.working.specs.declared.Interval.the-variants.{Stopped};

@@ -1,8 +1,8 @@
 // The vehicles present, in a ring of slots: one enters or leaves at a station's end, and two meet. No other vehicle is moved. What lies in another slot
 // stands for nothing; a slot is made unused when its vehicle leaves, so that a section has words of its own.
-ghost use Prim.Native.Nat.{_%_, _+_, _-_, _<_, _≤_, min};
+ghost use Prim.Native.Nat.{_%_, _+_, _-_, _<_, _≤_};
 ghost use Rattle.words.specs.Stores.{StartMoved, VehiclePut, endSlot};
-ghost use Rattle.words.specs.Words.{Becomes, Met, OwnWords, VehiclesBecome, oneBack, ringIn, sectionIn, slots, startIn, startOn, vehicleAt};
+ghost use Rattle.words.specs.Words.{Met, OwnWords, VehiclesBecome, oneBack, ringIn, sectionIn, slots, startIn, startOn, vehicleAt};
 ghost use Rattle.working.specs.Reasons.{findOf, mayMeet};
 ghost use Rattle.working.specs.Sections.{emptied, insertAt, nearestAt, removeAt, unused, vehiclesOf};
 ghost use Rattle.working.specs.Steps.{redirectAt, redirected};

@@ -1,6 +1,6 @@
 -- T-06, "The lent shelf is 16 places of name, zeros to 12, and well-made position, in the order first stored, no name twice, the rest zero; another is 5": 16 places of 293
 -- bytes, 4,688 in all; and what a store and a fetch make of it.
-use Prim.Native.Nat.{_*_, _+_, suc, zero, ℕ}
+use Prim.Native.Nat.{_*_, suc, zero, ℕ}
 use Rattle.working.specs.Entries.{every, pasted}
 use Rattle.working.specs.Positions.{byteAt, ifAllowed, isPosition, refusalIn, sameBytes}
 use Rattle.working.specs.Refusals.{Test, firstOf}

@@ -14,7 +14,7 @@ use Rattle.working.specs.Acts.{Act}
 use Rattle.working.specs.Effects.{Depart, Departing, Plan, arriveDesk}
 use Rattle.working.specs.Events.{At, Bad, Begin, Decoded, Event, Meet, Resume, Says, decode}
 use Rattle.working.specs.Reasons.{beginTests, findOf, isNamed, mayEnter, mayMeet, meetTests, resumeTests}
-use Rattle.working.specs.Sections.{deskOf, emptied, insertAt, nearestAt, otherAt, padTo, padWith, vehiclesOf, withDesk, withVehicles}
+use Rattle.working.specs.Sections.{deskOf, emptied, insertAt, nearestAt, otherAt, padWith, vehiclesOf, withDesk, withVehicles}
 use Rattle.working.specs.Steps.{accepted, doneBy, entered, metAt, onDecoded, planOf, redirectAt, refused, settled, stepOf}
 use Rattle.working.specs.WellMade.{wellMade}
 use Rattle.working.specs.declared.Counts.{Counts}

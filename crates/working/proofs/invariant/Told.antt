@@ -3,7 +3,7 @@
 -- Assumes nothing.
 use Prim.Native.Nat.{_+_, suc, ℕ}
 use Rattle.working.proofs.invariant.Changes.{Change, Sound, arrival, departure, emptying, meeting, refusal, well-at}
-use Rattle.working.proofs.invariant.Invariant.{owedFor, owedOver, trainOne, weigh}
+use Rattle.working.proofs.invariant.Invariant.{owedOver, trainOne, weigh}
 use Rattle.working.proofs.invariant.Made.{vehicles-after, vehicles-with}
 use Rattle.working.proofs.invariant.Plans.{Departs}
 use Rattle.working.proofs.invariant.Sides.{moves-weight, movesOf}

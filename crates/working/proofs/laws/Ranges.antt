@@ -2,7 +2,7 @@
 -- its station tell whose it is.
 -- The kind fixes which bits stand, and a field that is there lies in its range, while one that is absent is 0.
 -- Assumes nothing.
-use Prim.Native.Nat.{_+_, _<_, _≤_, ℕ}
+use Prim.Native.Nat.{_+_, _≤_, ℕ}
 use Rattle.working.proofs.laws.Clauses.{Carried, Few}
 use Rattle.working.proofs.laws.Found.{read-by}
 use Rattle.working.proofs.laws.Judged.{taken}

@@ -3,7 +3,7 @@
 -- another, which is where it has T/409 (`followers-have-two`). A view has three cases, a sum of forms two for each part, and in each of them both sides come to the same by
 -- computing.
 -- Assumes nothing.
-use Prim.Native.Nat.{_%_, _+_, _/_, ℕ}
+use Prim.Native.Nat.{_%_, _+_, _/_}
 use Rattle.working.specs.Acts as acts
 use Rattle.working.specs.Effects.{openSpeed, trainSpeed, wayForm}
 use Rattle.working.specs.Events.{viewOf}

@@ -22,7 +22,7 @@ use Rattle.working.proofs.Answer as N
 use Rattle.working.proofs.Answer.Laws as N′
 use Rattle.working.specs.declared.Answer.{Answer}
 use base.Fml.{Fml, GName, Lft, Share, fat, flent, flft, fsep, ftrue}
-use base.Logic.{SProp, emp, ent, fst∗, id⊢, sep, via}
+use base.Logic.{SProp, emp, ent, fst∗, id⊢, via}
 use contract.Monad.{Fun, fact}
 use contract.Running.{givenOf, tables, tablesOf}
 use denote.Builtin.{u8}

@@ -1,6 +1,6 @@
 -- `kept::numbers_in` meets its contract. The loop's invariant: the first `i` numbers are those of the places, and zeros stand behind them.
 -- Assumes nothing.
-use Prim.Native.Nat.{_+_, _-_, min, ℕ}
+use Prim.Native.Nat.{_-_, min, ℕ}
 use Rattle.doubleentering.proofs.Numbers.{lineFrom, padded, place-at, places-count}
 use Rattle.doubleentering.proofs.Sides.{side-is}
 use Rattle.doubleentering.proofs.kept.numbers_in.Statement.{statement}

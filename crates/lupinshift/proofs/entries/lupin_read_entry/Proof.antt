@@ -5,7 +5,7 @@ use Rattle.lupinshift.proofs.entries.lupin_read_entry.Tie as tie
 use Rattle.lupinshift.specs.Fields.{fieldsRead, numberRead}
 use borrow.Author.Needs.{needs}
 use borrow.Author.Tests.{le-ltb, lt-ltb}
-use mathlib.Core.Path.{_∙_, ap, refl}
+use mathlib.Core.Path.{_∙_, ap}
 
 returns : tie.Need-returns
 returns c =

@@ -6,7 +6,7 @@ use Rattle.working.specs.Entries.{logAfter, refusalWritten, writtenAt}
 use Rattle.working.specs.declared.Table.the-variants.{SingleLine}
 use borrow.Author.Needs.{needs}
 use borrow.Author.Tests.{le-ltb, lt-ltb}
-use mathlib.Core.Path.{_∙_, ap, refl}
+use mathlib.Core.Path.{_∙_, ap}
 
 returns : tie.Need-returns
 returns c =

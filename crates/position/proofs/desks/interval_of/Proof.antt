@@ -2,7 +2,6 @@
 -- Assumes nothing.
 use Rattle.position.proofs.desks.interval_of.Statement.{statement}
 use Rattle.position.proofs.desks.interval_of.Tie as tie
-use borrow.Author.Needs.{needs}
 use borrow.Author.Tests.{eq-eqb, ne-eqb}
 
 returns : tie.Need-returns

@@ -1,6 +1,6 @@
 -- `sections::vehicles_at` meets its contract. The loop's invariant: the places are those of the first `i` vehicles.
 -- Assumes nothing.
-use Prim.Native.Nat.{_-_, _≤_}
+use Prim.Native.Nat.{_-_}
 use Rattle.position.proofs.Places.{vehicle-there}
 use Rattle.position.proofs.sections.vehicles_at.Statement.{statement}
 use Rattle.position.proofs.sections.vehicles_at.Tie as tie

@@ -6,7 +6,7 @@ use Rattle.step.proofs.positions.put_answer.Tie as tie
 use borrow.Author.Needs.{needs}
 use lib.ListN.{length-set}
 use mathlib.Core.List.{[], _∷_}
-use mathlib.Core.Path.{_∙_, ap, refl}
+use mathlib.Core.Path.{refl}
 use native.Mathlib.Omega.{arith}
 
 returns : tie.Need-returns

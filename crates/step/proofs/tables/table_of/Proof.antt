@@ -2,7 +2,6 @@
 -- Assumes nothing.
 use Rattle.step.proofs.tables.table_of.Statement.{statement}
 use Rattle.step.proofs.tables.table_of.Tie as tie
-use borrow.Author.Needs.{needs}
 
 returns : tie.Need-returns
 returns c = rw (c .if1 .taken)

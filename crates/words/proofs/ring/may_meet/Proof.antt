@@ -9,7 +9,6 @@ use borrow.Author.Needs.{needs}
 use borrow.Author.Tests.{le-ltb, lt-ltb}
 use lib.ListN.{length}
 use mathlib.Core.Bool.{and-assoc, and-true}
-use mathlib.Core.Path.{_≡_}
 use native.Mathlib.Omega.{arith}
 
 returns : tie.Need-returns

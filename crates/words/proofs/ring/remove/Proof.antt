@@ -4,7 +4,6 @@ use Prim.Native.Nat.{_-_}
 use Rattle.words.proofs.Ends.{remove-becomes}
 use Rattle.words.proofs.ring.remove.Statement.{statement}
 use Rattle.words.proofs.ring.remove.Tie as tie
-use Rattle.words.specs.Stores.{VehiclePut, endSlot}
 use borrow.Author.Needs.{needs}
 use mathlib.Core.Path.{_∙_, ap}
 use native.Mathlib.Omega.{arith}

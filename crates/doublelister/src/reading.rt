@@ -1,5 +1,5 @@
 // A log from standard input, by C's read. What each read came to, and what follows it, is decided by `input`.
-ghost use Rattle.input.specs.Reading.{Holds, Within, mostRead};
+ghost use Rattle.input.specs.Reading.{FitsRoom, Within, mostRead};
 ghost use lib.ListN.{length};
 ghost use mathlib.Core.Path.{_≡_};
 use input::Came;
@@ -23,7 +23,7 @@ fn read_some(rest: &mut [u8]) -> Came
 // Reads standard input until it ends or the room is full, which takes the longest log and a byte more.
 pub(crate) fn read_log(room: &mut [u8]) -> Input
     requires { ⌜ length (now room) ≡ mostRead ⌝ }
-    ensures { λ r. ⌜ Holds r mostRead ⌝ }
+    ensures { λ r. ⌜ FitsRoom r mostRead ⌝ }
 {
     let mut done = 0usize;
     let mut patience = PATIENCE;

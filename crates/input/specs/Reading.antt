@@ -33,6 +33,6 @@ behindRead patience Interrupted = cond (eqb patience 0) reading.Failed (reading.
 behindRead patience Failed = reading.Failed
 
 -- a log has no more bytes than there is room for
-abbrev pub Holds : Input → ℕ → Type 0
-Holds (input.Log len) room = len ≤ room
-Holds input.Failed room = Unit {0}
+abbrev pub FitsRoom : Input → ℕ → Type 0
+FitsRoom (input.Log len) room = len ≤ room
+FitsRoom input.Failed room = Unit {0}

@@ -56,8 +56,8 @@ isLast (Train a g) = false
 isLast (LastTrain a g u) = true
 
 -- a slow vehicle, OPEN or THROUGH, as against a fast one, RETURN or train; and a train
-abbrev pub IsSlow : Movement → Type 0
-IsSlow m = isOpenOrThrough m ≡ true
+abbrev pub OpenOrThrough : Movement → Type 0
+OpenOrThrough m = isOpenOrThrough m ≡ true
 
 abbrev pub Trains : Movement → Type 0
 Trains m = isTrain (kindIn m) ≡ true
@@ -137,7 +137,7 @@ pub record Waits (d : Desk) (mine theirs : List Movement) : Type 0 where
 
 -- a fast vehicle has nothing of the other station ahead
 pub data Clear (mine theirs : List Movement) : Type 0 where
-  all-slow : Every IsSlow mine → Clear mine theirs
+  all-slow : Every OpenOrThrough mine → Clear mine theirs
   no-far : theirs ≡ [] → Clear mine theirs
 
 pub record Half (d o : Desk) (mine theirs : List Movement) : Type 0 where
@@ -196,23 +196,23 @@ record Slow (m : Movement) : Type 0 where
   owed : owedFor m ≡ 0
   return : isReturn m ≡ false
 
-slow : (m : Movement) → IsSlow m → Slow m
+slow : (m : Movement) → OpenOrThrough m → Slow m
 slow (Open a) is = record { grants = refl; owed = refl; return = refl }
 slow Through is = record { grants = refl; owed = refl; return = refl }
 slow (Return a g) is = absurd (false≢true is)
 slow (Train a g) is = absurd (false≢true is)
 slow (LastTrain a g u) is = absurd (false≢true is)
 
-slow-owed : (l : List Movement) → Every IsSlow l → owedOver l ≡ 0
+slow-owed : (l : List Movement) → Every OpenOrThrough l → owedOver l ≡ 0
 slow-owed [] h = refl
 slow-owed (m ∷ l) h = omega (arith, slow m (h .0) .owed, slow-owed l (h .1))
 
-slow-last : (l : List Movement) → Every IsSlow l → lastReturn l ≡ false
+slow-last : (l : List Movement) → Every OpenOrThrough l → lastReturn l ≡ false
 slow-last [] h = refl
 slow-last (m ∷ l) h = last-cons m l (slow m (h .0) .return) ∙ slow-last l (h .1)
 
 -- no train and no RETURN
-slow-of : (l : List Movement) → InRow l → owedOver l ≡ 0 → lastReturn l ≡ false → Every IsSlow l
+slow-of : (l : List Movement) → InRow l → owedOver l ≡ 0 → lastReturn l ≡ false → Every OpenOrThrough l
 slow-of [] h t r = tt
 slow-of (Open a ∷ l) h t r = (refl, slow-of l (h .1) (omega arith) (sym (last-cons (Open a) l refl) ∙ r))
 slow-of (Through ∷ l) h t r = (refl, slow-of l (h .1) (omega arith) (sym (last-cons Through l refl) ∙ r))
@@ -234,7 +234,7 @@ no-open-away [] t h e = e
 no-open-away (m ∷ l) t h e = h .0
 
 -- ahead of an OPEN or THROUGH may stand what is no OPEN and grants nothing
-slow-ahead : (m : Movement) (l : List Movement) → IsSlow m → Every NoOpen l → granted l ≡ 0 → Every (Ahead m) l
+slow-ahead : (m : Movement) (l : List Movement) → OpenOrThrough m → Every NoOpen l → granted l ≡ 0 → Every (Ahead m) l
 slow-ahead m [] op h e = tt
 slow-ahead m (n ∷ l) op h e = (
   record { return = slow m op .return; no-open = h .0; grants = λ some. absurd (omega arith); last = λ is. op; fast = λ fast. absurd (clash op fast) },
@@ -339,7 +339,7 @@ kept-slow d o t out m mine theirs h p op is-out =
     one-more (all-slow all) = all-slow (op, all)
     one-more (no-far nil) = no-far nil
 
-    theirs-open : Clear theirs mine → awayAt mine theirs ≡ false → Every IsSlow theirs
+    theirs-open : Clear theirs mine → awayAt mine theirs ≡ false → Every OpenOrThrough theirs
     theirs-open (all-slow all) none-away = all
     theirs-open (no-far nil) none-away = slow-of theirs (h .far .row) (omega (arith, h .own .sum, p .owes)) (rw nil at none-away)
 
@@ -467,7 +467,7 @@ kept-own d o t sent m mine theirs h op =
     one-less (all-slow all) = all-slow (all .1)
     one-less (no-far nil) = no-far nil
 
-    theirs-open : Clear theirs (m ∷ mine) → Every IsSlow theirs
+    theirs-open : Clear theirs (m ∷ mine) → Every OpenOrThrough theirs
     theirs-open (all-slow all) = all
     theirs-open (no-far nil) = cons-nil nil
 
@@ -502,7 +502,7 @@ module _ (d o : Desk) (m : Movement) (l : List Movement) (h : Halves d o [] (l +
   pub all-owed : isLast m ≡ true → d .clears .owes ≡ owedFor m
   all-owed last =
       let none-held : o .clears .holds ≡ 0 = zero-unless (o .clears .holds) (λ some. clash last (every-before Unendorsed l m (h .far .holding some .trains) .1 .more)) in
-      let behind = every-map (λ n. Ahead n m) IsSlow (λ n k. k .last last) l (far-row .1) in
+      let behind = every-map (λ n. Ahead n m) OpenOrThrough (λ n k. k .last last) l (far-row .1) in
       omega (arith, own-sum, none-held, slow-owed l behind)
 
   -- where line clears wait, the one that comes is a train that grants nothing

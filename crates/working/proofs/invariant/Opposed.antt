@@ -1,10 +1,10 @@
 -- Two vehicles that head towards one another are both OPEN or THROUGH.
--- A fast vehicle (RETURN or TRAIN) is unmet, so it heads away from its sender; by FRONT everything ahead of it is fast and of the same sender, so nothing ahead heads
+-- A fast vehicle (RETURN or train) is unmet, so it heads away from its sender; by FRONT everything ahead of it is fast and of the same sender, so nothing ahead heads
 -- towards it. The same argument, seen from A and from B, serves the two vehicles.
 -- Assumes nothing.
 use Prim.Native.Nat.{_-_, _<_, suc, zero, ℕ}
 use Rattle.working.proofs.invariant.Changes.{well-at}
-use Rattle.working.proofs.invariant.Invariant.{Ahead, Clear, InRow, IsSlow, all-slow, cons-nil, no-far}
+use Rattle.working.proofs.invariant.Invariant.{Ahead, Clear, InRow, OpenOrThrough, all-slow, cons-nil, no-far}
 use Rattle.working.proofs.invariant.Made.{other-sender}
 use Rattle.working.proofs.invariant.Preserved.{Good, kept-at}
 use Rattle.working.proofs.invariant.Sides.{every-seen, getD-reverse, length-seen, movesOf, ownMoves, seenFrom}
@@ -97,7 +97,7 @@ nearer-slow s g x i j less there away to = by (isOpenOrThrough (getD l i unused 
         from = rw (other-other x) at (other-sender (otherAt x) (getD l i unused) near (fast-away (otherAt x) (getD l i unused) near e away))
 
         by-clear : Clear (movesOf x (vehiclesOf s)) (movesOf (otherAt x) (vehiclesOf s)) → isOpenOrThrough (getD l i unused .movement) ≡ true
-        by-clear (all-slow all) = moves-have IsSlow x l all i (omega (arith, len)) from
+        by-clear (all-slow all) = moves-have OpenOrThrough x l all i (omega (arith, len)) from
         by-clear (no-far nil) =
             let far = all-others (otherAt x) (seenFrom (otherAt x) (vehiclesOf s)) (shapes (otherAt x)) nil in
             let all-x : Every (From x) l = every-seen (From x) (otherAt x) x (vehiclesOf s) (rw (other-other x) at far) in

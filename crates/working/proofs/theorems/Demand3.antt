@@ -32,11 +32,11 @@ use native.Mathlib.Omega.{arith}
 -- ---- what every list keeps
 
 -- after the steps h
-pub record Kept (h : List Done) (s : Section) : Type 0 where
+pub record Standing (h : List Done) (s : Section) : Type 0 where
   pub good : Good s
   pub told : Every (Told h) (vehiclesOf s)
 
-kept-step : (h : List Done) (d : Done) (s t : Section) → Kept h s → StepBy (d .form) s (d .bytes) (d .answer) t → Kept (h ++ d ∷ []) t
+kept-step : (h : List Done) (d : Done) (s t : Section) → Standing h s → StepBy (d .form) s (d .bytes) (d .answer) t → Standing (h ++ d ∷ []) t
 kept-step h d s t k b =
     let did = step-did d s t b in
     let sound = k .good .sound in
@@ -46,11 +46,11 @@ kept-step h d s t k b =
       told = told-change h d s (decode (d .bytes)) (stepOf s (d .bytes)) sound (change s (d .bytes) sound) refl (did .answered) (k .told);
     })
 
-kept-run : (h : List Done) {s t : Section} {l : List Done} → Kept h s → Run s l t → Kept (h ++ l) t
+kept-run : (h : List Done) {s t : Section} {l : List Done} → Standing h s → Run s l t → Standing (h ++ l) t
 kept-run h k stop = rw (append-nil h) k
 kept-run h k (next {s} {t} {d = d} {l = l} b r) = rw (append-assoc h (d ∷ []) l) at (kept-run (h ++ d ∷ []) (kept-step h d s t k b) r)
 
-pub kept : {l : List Done} {s : Section} → Run fresh l s → Kept l s
+pub kept : {l : List Done} {s : Section} → Run fresh l s → Standing l s
 kept run = kept-run [] (record { good = good-emptied false noneRefused; told = tt }) run
 
 -- ---- two neighbours
@@ -89,7 +89,7 @@ demand3 {l} {s} run = record {
       join-run StepBy front (swap-run d e x y first second p q other apart (kept front .good) back);
 }
   where
-    k : Kept l s
+    k : Standing l s
     k = kept run
 
     len : length (vehiclesOf s) ≡ s .len

@@ -171,7 +171,7 @@ zeroTests (n ∷ ns) = eqb n 0 ∷ zeroTests ns
 abbrev pub isFreshDesk : Desk → Bool
 isFreshDesk d = every (zeroTests (numbersOf (deskFigures d)))
 
--- "not in force, all but the count is as fresh": but the three counts
+-- "not in force, all but the count is as fresh": the vehicles and the desks; in force or not itself, and the three counts, are left out
 abbrev pub isIdle : Section → Bool
 isIdle s = every (eqb (s .len) 0 ∷ isFreshDesk (s .a) ∷ isFreshDesk (s .b) ∷ [])
 

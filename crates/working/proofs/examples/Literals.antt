@@ -115,8 +115,9 @@ abbrev vehicleFigures : List Vehicle → List ℕ
 vehicleFigures [] = []
 vehicleFigures (v ∷ l) = movementFigures (v .movement) ++ v .sender ∷ v .form ∷ v .heading ∷ bit (v .met) ∷ v .class ∷ vehicleFigures l
 
-abbrev pub figuresOf : Section → List ℕ
-figuresOf s =
+-- every figure that a section has: the tables compare sections by these, so that one which is missing here is compared by none of them
+abbrev pub allFigures : Section → List ℕ
+allFigures s =
     s .len ∷ bit (s .force) ∷ s .refused .a ∷ s .refused .b ∷ s .refused .none ∷ numbersOf (deskFigures (s .a)) ++ numbersOf (deskFigures (s .b)) ++ vehicleFigures (s .vehicles)
 
 abbrev sameFigures : List ℕ → List ℕ → Bool
@@ -126,4 +127,4 @@ sameFigures (n ∷ ns) [] = false
 sameFigures (n ∷ ns) (m ∷ ms) = eqb n m && sameFigures ns ms
 
 abbrev pub sameSection : Section → Section → Bool
-sameSection s t = sameFigures (figuresOf s) (figuresOf t)
+sameSection s t = sameFigures (allFigures s) (allFigures t)

@@ -83,10 +83,10 @@ others-go-on : (after (refusing 5 4294967295 4294967295) (opening A ∷ []) ≡ 
 unfolding step-computes
 others-go-on = (refl, refl, refl)
 
--- "those of no station (refusals 1 to 4, BEGIN, RESUME and MEET)": a cut OPEN of A, kind 9 at A without a view, an OPEN of A with one bit too many, one that asks
+-- "those of no station (refusals 1 to 4, BEGIN, RESUME and MEET)": a cut OPEN of A, kind 10 at A, which is none, an OPEN of A with one bit too many, one that asks
 -- for 9, a MEET that names A, BEGIN in force, and RESUME out of force
 of-no-station : (after begun ((0x3F ∷ 2 ∷ 1 ∷ []) ∷ []) ≡ emptied true (counts 0 0 1))
-    × (after begun ((0x07 ∷ 9 ∷ 1 ∷ 0 ∷ 10 ∷ []) ∷ []) ≡ emptied true (counts 0 0 1))
+    × (after begun ((0x07 ∷ 10 ∷ 1 ∷ 0 ∷ 10 ∷ []) ∷ []) ≡ emptied true (counts 0 0 1))
     × (after begun ((0x7F ∷ 2 ∷ 1 ∷ 0 ∷ 10 ∷ 1 ∷ 1 ∷ 2 ∷ 1 ∷ []) ∷ []) ≡ emptied true (counts 0 0 1))
     × (after begun (opens 1 10 1 9 ∷ []) ≡ emptied true (counts 0 0 1))
     × (after begun (meet 1 1 1 ∷ []) ≡ emptied true (counts 0 0 1))

@@ -5,7 +5,8 @@
 #include <string.h>
 
 #include "lupinshift.h"
-#include "words.h"
+
+#define COUNT(lesson) (sizeof(lesson) / sizeof *(lesson))
 
 /* Static memory is zero, so the section is fresh and the shelf empty. */
 static uint8_t section[LUPIN_POSITION];
@@ -33,11 +34,40 @@ static const uint16_t last[][LUPIN_FIELDS] = {
     {LUPIN_MAP_TRAIN, LUPIN_TRAIN, LUPIN_A, 156, LUPIN_CLEAR_DAY},
 };
 
+static const char *const refusals[] = {
+    [LUPIN_ENDS_INSIDE] = "the bytes end inside an entry",
+    [LUPIN_UNKNOWN_KIND] = "there is no such kind",
+    [LUPIN_WRONG_MAP] = "the map is not of the kind",
+    [LUPIN_OUT_OF_RANGE] = "a field lies outside its range",
+    [LUPIN_ILL_MADE] = "the shelf is none",
+    [LUPIN_ALREADY_IN_FORCE] = "the working is in force already",
+    [LUPIN_NOT_IN_FORCE] = "the working is not in force",
+    [LUPIN_VEHICLE_PRESENT] = "a vehicle is in the section",
+    [LUPIN_BEFORE_CLOCK] = "the time is before the last accepted entry here",
+    [LUPIN_OPENER_AWAY] = "the opener from here is away",
+    [LUPIN_HOLDS_LINE_CLEAR] = "line clears are held here",
+    [LUPIN_OWES_LINE_CLEAR] = "line clears are owed here",
+    [LUPIN_GUEST_HERE] = "the other station's opener stands here",
+    [LUPIN_NO_GUEST] = "no opener of the other station stands here",
+    [LUPIN_NO_LINE_CLEAR] = "no line clear is held here",
+    [LUPIN_GRANT_NOT_ALLOWED] = "more is granted than was asked, or while line clears are owed here",
+    [LUPIN_TWELVE_SENT] = "twelve departures are counted here",
+    [LUPIN_FORMS_USED] = "the last form number is used",
+    [LUPIN_INTERVAL_RUNNING] = "the last departure was under 30 minutes ago",
+    [LUPIN_NOT_NEAREST] = "the vehicle named is not the nearest",
+    [LUPIN_MAY_NOT_ENTER] = "the vehicle may not enter here",
+    [LUPIN_MAY_NOT_MEET] = "the vehicle named has none that it may meet",
+    [LUPIN_BUFFER_TOO_SHORT] = "too few places are lent",
+    [LUPIN_UNKNOWN_NAME] = "there is no such name",
+    [LUPIN_SHELF_FULL] = "the shelf is full",
+    [LUPIN_NO_POSITION] = "the bytes are no position",
+};
+
 /* Ends the class where a call is refused that should not be. */
 static void must(uint32_t refusal, const char *what)
 {
     if (refusal != LUPIN_DONE) {
-        fprintf(stderr, "class: %s is refused, %u: %s\n", what, (unsigned)refusal, lupin_words(refusal));
+        fprintf(stderr, "class: %s is refused, %u: %s\n", what, (unsigned)refusal, refusals[refusal]);
         exit(1);
     }
 }
@@ -49,9 +79,14 @@ static char letter(uint16_t station)
 
 static void print_entry(const uint16_t *fields)
 {
+    static const char *const kinds[] = {
+        [LUPIN_BEGIN] = "BEGIN",   [LUPIN_OPEN] = "OPEN",     [LUPIN_THROUGH] = "THROUGH",
+        [LUPIN_RETURN] = "RETURN", [LUPIN_TRAIN] = "TRAIN",   [LUPIN_RECEIVE] = "RECEIVE",
+        [LUPIN_MEET] = "MEET",     [LUPIN_RESUME] = "RESUME", [LUPIN_LAST_TRAIN] = "LAST TRAIN",
+    };
     uint16_t map = fields[LUPIN_FIELD_MAP];
 
-    fputs(lupin_kinds[fields[LUPIN_FIELD_KIND]], stdout);
+    fputs(kinds[fields[LUPIN_FIELD_KIND]], stdout);
     if (map & LUPIN_HAS_STATION)
         printf(" at %c", letter(fields[LUPIN_FIELD_STATION]));
     if (map & LUPIN_HAS_TIME)
@@ -64,10 +99,30 @@ static void print_entry(const uint16_t *fields)
         printf(", form %c%u", letter(fields[LUPIN_FIELD_SENDER]), (unsigned)fields[LUPIN_FIELD_NUMBER]);
 }
 
+static void print_speed(uint32_t speed)
+{
+    switch (LUPIN_SPEED_CASE(speed)) {
+    case LUPIN_WALKING_PACE:
+        fputs("walking pace", stdout);
+        break;
+    case LUPIN_KMH:
+        printf("%u km/h", (unsigned)LUPIN_SPEED_KMH(speed));
+        break;
+    case LUPIN_BOOKED:
+        fputs("booked speed", stdout);
+        break;
+    case LUPIN_TWO_FIGURES:
+        printf("%u km/h on the straight, %u elsewhere", (unsigned)LUPIN_SPEED_STRAIGHT(speed), (unsigned)LUPIN_SPEED_ELSEWHERE(speed));
+        break;
+    default:
+        fputs("no speed", stdout);
+    }
+}
+
 /* What the master hands over. An entry that is no departure has no forms. */
 static void print_order(uint16_t station, const uint32_t *answer)
 {
-    char speed[LUPIN_SPEED_ROOM];
+    static const char *const forms[] = {"T/B 602", "T/E 602", "T/F 602", "T/G 602", "T/H 602", "T/369(3b)", "T/409", "T/A 409", "T/C 602"};
     size_t form;
 
     if (answer[LUPIN_ANSWER_FORMS] == 0) {
@@ -75,10 +130,12 @@ static void print_order(uint16_t station, const uint32_t *answer)
         return;
     }
     printf(": form %c%u with", letter(station), (unsigned)answer[LUPIN_ANSWER_NUMBER]);
-    for (form = 0; form < LUPIN_PLACES(lupin_forms); form++)
+    for (form = 0; form < COUNT(forms); form++)
         if (answer[LUPIN_ANSWER_FORMS] >> form & 1)
-            printf(" %s,", lupin_forms[form]);
-    printf(" %s\n", lupin_speed_words(answer[LUPIN_ANSWER_SPEED], speed, sizeof speed));
+            printf(" %s,", forms[form]);
+    putchar(' ');
+    print_speed(answer[LUPIN_ANSWER_SPEED]);
+    putchar('\n');
 }
 
 /* Builds the entry from its fields and steps the section with it. */
@@ -93,7 +150,7 @@ static void enter(const uint16_t *fields)
     if (refusal == LUPIN_DONE) {
         print_order(fields[LUPIN_FIELD_STATION], answer);
     } else if (refusal < LUPIN_BUFFER_TOO_SHORT) {
-        printf(": refused, %u: %s\n", (unsigned)refusal, lupin_words(refusal));
+        printf(": refused, %u: %s\n", (unsigned)refusal, refusals[refusal]);
     } else {
         must(refusal, "a step");
     }
@@ -144,16 +201,16 @@ int main(void)
 {
     uint8_t stood[LUPIN_POSITION];
 
-    play(opening, LUPIN_PLACES(opening));
+    play(opening, COUNT(opening));
     store("FIRSTAWAY");
     memcpy(stood, section, sizeof stood);
-    play(follower, LUPIN_PLACES(follower));
+    play(follower, COUNT(follower));
     fetch("FIRSTAWAY");
     if (memcmp(stood, section, sizeof stood) != 0) {
         fputs("class: the class does not stand where it stood\n", stderr);
         return 1;
     }
-    play(last, LUPIN_PLACES(last));
+    play(last, COUNT(last));
     if (fflush(stdout) != 0) {
         perror("class: standard output");
         return 1;

@@ -4,7 +4,7 @@ use std::process::ExitCode;
 
 use lupinshift::{
     at, class, desk, kind, map, station, vehicle, view, words, Entry, Order, Position, Shelf,
-    KINDS, VEHICLES,
+    VEHICLES,
 };
 
 /// Ends the class: a call was refused that should not be.
@@ -150,6 +150,18 @@ const fn letter(station: u16) -> char {
 }
 
 fn named(entry: &Entry) -> String {
+    const KINDS: [&str; 10] = [
+        "",
+        "BEGIN",
+        "OPEN",
+        "THROUGH",
+        "RETURN",
+        "TRAIN",
+        "RECEIVE",
+        "MEET",
+        "RESUME",
+        "LAST TRAIN",
+    ];
     let mut name = KINDS[usize::from(entry.kind)].to_owned();
     if entry.has(map::HAS_STATION) {
         name += &format!(" at {}", letter(entry.station));

@@ -2,10 +2,11 @@
 -- Assumes nothing.
 use Prim.Native.Nat.{ℕ}
 use Rattle.double.proofs.Computing.{step_computes}
-use Rattle.double.proofs.Lists.{after, done}
-use Rattle.double.specs.InOrder.{departures}
-use Rattle.double.specs.Sections.{emptied, fresh, fresh_side, side}
-use Rattle.double.specs.Steps.{Decoded, decode}
+use Rattle.double.proofs.InOrder.{in_order}
+use Rattle.double.proofs.Lists.{after, done, runs}
+use Rattle.double.specs.InOrder.{departures, receipts}
+use Rattle.double.specs.Sections.{emptied, fresh, fresh_side, line_of, side}
+use Rattle.double.specs.Steps.{Decoded, decode, step_of}
 use Rattle.double.specs.WellMade.{well_made}
 use Rattle.double.specs.declared.Section.{Section}
 use Rattle.double.specs.declared.Side.{Side}
@@ -15,14 +16,14 @@ use Rattle.working.proofs.laws.Lists.{Todo}
 use Rattle.working.specs.Events.{Bad, Says}
 use Rattle.working.specs.Refusals.{number_of}
 use Rattle.working.specs.Runs.{Done, by_value}
-use Rattle.working.specs.Sections.{none_refused}
+use Rattle.working.specs.Sections.{none_refused, pad_with}
 use Rattle.working.specs.declared.Answer.TheVariants.{Accepted, Refused}
 use Rattle.working.specs.declared.Answer.{Answer}
-use Rattle.working.specs.declared.Interval.TheVariants.{Stopped}
-use Rattle.working.specs.declared.Refusal.TheVariants.{AlreadyInForce, BeforeClock, EndsInside, FormsUsed, IntervalRunning}
+use Rattle.working.specs.declared.Interval.TheVariants.{Since, Stopped}
+use Rattle.working.specs.declared.Refusal.TheVariants.{AlreadyInForce, BeforeClock, EndsInside, FormsUsed, IllMade, IntervalRunning}
 use Rattle.working.specs.declared.Refusal.TheVariants.{NotInForce, NotNearest, OutOfRange, TwelveSent, UnknownKind, VehiclePresent, WrongMap}
 use Rattle.working.specs.declared.Speed.TheVariants.{Both}
-use Rattle.working.specs.declared.Station.TheVariants.{A}
+use Rattle.working.specs.declared.Station.TheVariants.{A, B}
 use lib.Dec.{ltb}
 use mathlib.Core.Bool.{Bool, false, true}
 use mathlib.Core.List.{List, [], ◌++◌, ◌∷◌, map}
@@ -55,17 +56,17 @@ maps_by_kind = refl
 -- ---- lists of entries
 
 -- the minute in two bytes
-abbrev pub train : ℕ → ℕ → ℕ → List ℕ
+abbrev train : ℕ → ℕ → ℕ → List ℕ
 train station high low = 0x07 ∷ 5 ∷ station ∷ high ∷ low ∷ []
 
-abbrev pub todo : List (List ℕ) → List Todo
+abbrev todo : List (List ℕ) → List Todo
 todo l = map (λ bytes. record { form = by_value; bytes = bytes }) l
 
-abbrev pub answers : Section → List (List ℕ) → List Answer
+abbrev answers : Section → List (List ℕ) → List Answer
 answers s l = map (λ (d : Done). d.answer) (done s (todo l))
 
 -- a departure's, on T/C 602 alone and at both speeds
-abbrev pub order : ℕ → Answer
+abbrev order : ℕ → Answer
 order form = Accepted form 256 (Both 25 10)
 
 -- three trains from A, one from B, each received
@@ -111,13 +112,13 @@ unfolding step_computes
 log_after_lem = refl
 
 -- A's departures since BEGIN; after another BEGIN there are none
-log_departures : (departures A [] (done fresh (todo log)) ≡ (A, 1) ∷ (A, 2) ∷ (A, 3) ∷ []) × (departures A [] (done fresh (todo (log ++ begin ∷ []))) ≡ [])
+log_departures : (departures A [] (done fresh (todo log)) ≡ 1 ∷ 2 ∷ 3 ∷ []) × (departures A [] (done fresh (todo (log ++ begin ∷ []))) ≡ [])
 unfolding step_computes
 log_departures = (refl, refl)
 
 -- ---- the thirteenth departure
 
-abbrev pub twelve : List (List ℕ)
+abbrev twelve : List (List ℕ)
 twelve =
     begin ∷ train 1 0 0 ∷ train 1 0 30 ∷ train 1 0 60 ∷ train 1 0 90 ∷ train 1 0 120 ∷ train 1 0 150 ∷ train 1 0 180 ∷ train 1 0 210 ∷ train 1 0 240
     ∷ train 1 1 14 ∷ train 1 1 44 ∷ train 1 1 74 ∷ []
@@ -136,6 +137,18 @@ thirteenth = refl
 changed_about_lem : answers (after fresh (todo twelve)) (train 1 1 104 ∷ receive 2 100 1 1 ∷ []) ≡ Refused TwelveSent ∷ plain ∷ []
 unfolding step_computes
 changed_about_lem = refl
+
+-- the theorem for that list: the thirteen that departed are the one received and the twelve on the line
+abbrev whole : List Todo
+whole = todo (twelve ++ receive 2 100 1 1 ∷ train 1 1 104 ∷ [])
+
+whole_in_order : departures A [] (done fresh whole) ≡ receipts B [] (done fresh whole) ++ line_of (after fresh whole).a
+whole_in_order = (in_order (runs fresh whole)).order B
+
+whole-told : (receipts B [] (done fresh whole) ≡ 1 ∷ [])
+    × (line_of (after fresh whole).a ≡ 2 ∷ 3 ∷ 4 ∷ 5 ∷ 6 ∷ 7 ∷ 8 ∷ 9 ∷ 10 ∷ 11 ∷ 12 ∷ 13 ∷ [])
+unfolding step_computes
+whole-told = (refl, refl)
 
 -- ---- 19 at the clock's end: 15 minutes after a departure at 65,520; and 30 minutes after one at 65,505 it has run
 
@@ -169,3 +182,22 @@ counts_stop : after (emptied false (record { a = 4294967295; b = 4294967294; non
     ≡ emptied false (record { a = 4294967295; b = 4294967295; none = 4294967295 })
 unfolding step_computes
 counts_stop = refl
+
+-- ---- 5: sections that are not well made, each by one test alone; the step alters nothing
+
+abbrev ill_made : List Section
+ill_made =
+    section_with (side 0 10000 Stopped [])  -- forms end at 9,999
+    ∷ section_with (side 0 20 Stopped (1 ∷ 2 ∷ 3 ∷ 4 ∷ 5 ∷ 6 ∷ 7 ∷ 8 ∷ 9 ∷ 10 ∷ 11 ∷ 12 ∷ 13 ∷ []))  -- thirteen on the line
+    ∷ section_with (side 0 2 Stopped (0 ∷ []))  -- form 0
+    ∷ section_with (side 0 2 Stopped (1 ∷ 3 ∷ []))  -- a form that was not used
+    ∷ section_with (side 0 2 Stopped (2 ∷ 1 ∷ []))  -- falling
+    ∷ section_with (side 0 2 Stopped (2 ∷ 2 ∷ []))  -- twice the same
+    ∷ section_with (record { clock = 0; last = 2; interval = Stopped; numbers = pad_with 0 12 (1 ∷ 2 ∷ []); len = 1 })  -- an unused place
+    ∷ section_with (side 4 2 (Since 5) [])  -- an interval later than the clock
+    ∷ record { force = false; refused = none_refused; a = fresh_side; b = side 1 0 Stopped [] }  -- not in force, and not as fresh
+    ∷ []
+
+ill-made : map (λ s. step_of s begin) ill_made ≡ map (λ s. record { answer = Refused IllMade; section = s }) ill_made
+unfolding step_computes
+ill-made = refl

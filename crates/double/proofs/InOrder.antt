@@ -4,9 +4,9 @@
 use Prim.Native.Nat.{ℕ}
 use Rattle.double.proofs.Lists.{each_result, own-run, step_did}
 use Rattle.double.proofs.Preserved.{Keeps, fresh-made, step_keeps}
-use Rattle.double.specs.InOrder.{InOrder, Train, departures, on_line, receipts}
+use Rattle.double.specs.InOrder.{InOrder, departures, receipts}
 use Rattle.double.specs.Runs.{Run, StepBy}
-use Rattle.double.specs.Sections.{fresh}
+use Rattle.double.specs.Sections.{fresh, line_of, side_of}
 use Rattle.double.specs.Steps.{decode}
 use Rattle.double.specs.WellMade.{well_made}
 use Rattle.double.specs.declared.Section.{Section}
@@ -29,8 +29,8 @@ pub made-run : {s t : Section} {l : List Done} → well_made s ≡ true → Run 
 made-run h stop = h
 made-run h (next {s} {t} {d = d} did run) = made-run (step_kept s t d did h).made run
 
-order_run : (x : Station) (sent got : List Train) {s t : Section} {l : List Done} → well_made s ≡ true → sent ≡ got ++ on_line s x → Run s l t
-    → departures x sent l ≡ receipts (other_at x) got l ++ on_line t x
+order_run : (x : Station) (sent got : List ℕ) {s t : Section} {l : List Done} → well_made s ≡ true → sent ≡ got ++ line_of (side_of s x) → Run s l t
+    → departures x sent l ≡ receipts (other_at x) got l ++ line_of (side_of t x)
 order_run x sent got h p stop = p
 order_run x sent got h p (next {s} {t} {d = d} did run) = let k = step_kept s t d did h in order_run x _ _ k.made (k.order x sent got p) run
 
@@ -40,7 +40,7 @@ pub in_order : {l : List Done} {s : Section} (run : Run fresh l s) → InOrder r
 unfolding pad_with
 in_order {l} {s} run = record { each = each_result run; order = order }
   where
-    order : (x : Station) → departures (other_at x) [] l ≡ receipts x [] l ++ on_line s (other_at x)
+    order : (x : Station) → departures (other_at x) [] l ≡ receipts x [] l ++ line_of (side_of s (other_at x))
     order A = order_run B [] [] fresh-made refl run
     order B = order_run A [] [] fresh-made refl run
 

@@ -1,10 +1,10 @@
 -- What every step keeps, whatever its bytes: a well-made section is left well made, and the equation of departures, receipts and line holds after the step where it held
--- before. At a station's side a departure adds its train behind both halves of the equation, a receipt moves the line's first, which it names by sender and number, to the
--- receipts, BEGIN empties all three, RESUME finds the line empty, and every other step leaves the three as they were.
+-- before. At a station's side a departure adds its number behind both halves of the equation, a receipt moves the line's first to the receipts, BEGIN empties all three,
+-- RESUME finds the line empty, and every other step leaves the three as they were.
 -- Assumes nothing.
 use Prim.Native.Nat.{◌+◌, ◌≤◌, ℕ}
 use Rattle.double.proofs.Lines.{Made, first_rest, line_length, line_there, made_of, made-side, rising_next, rising_rest, side-made}
-use Rattle.double.specs.InOrder.{Train, departed_by, on_line, received_by}
+use Rattle.double.specs.InOrder.{departed_by, received_by}
 use Rattle.double.specs.Sections.{emptied, fresh, line_of, side_of, with_clock, with_side}
 use Rattle.double.specs.Steps.{Begin, Decoded, Depart, Event, Receive, Resume, cleared, decode, decoded_as, departed, effect_of, is_first, on_decoded, refused, same_station, settled, step_of, tests_of}
 use Rattle.double.specs.WellMade.{made_tests, well_made}
@@ -26,59 +26,49 @@ use Rattle.working.specs.declared.Station.TheVariants.{A, B}
 use Rattle.working.specs.declared.Station.{Station}
 use borrow.Author.Tests.{le-leb, leb-true, ltb-false, not-false}
 use lib.ListN.{drop, length, length-append, length-drop}
-use mathlib.Core.Bool.{◌&&◌, false, false≢true, true}
-use mathlib.Core.List.{List, [], ◌++◌, ◌∷◌, append_assoc, map, map-append}
+use mathlib.Core.Bool.{◌&&◌, false, true}
+use mathlib.Core.List.{List, [], ◌++◌, ◌∷◌, append_assoc}
 use mathlib.Core.Path.{◌∙◌, ◌≡◌, ap, refl, sym}
 use native.Mathlib.Omega.{arith}
 
 -- ---- a side, with its line
 
--- the trains of station x on a side's line
-abbrev trains_on : Station → Side → List Train
-trains_on x d = map (λ (n : ℕ). (x, n)) (line_of d)
-
--- from d to e, the side of x, where the step makes `sending sent` of the trains sent from there, and `receiving got` of those received
-record Passes (x : Station) (d e : Side) (sending receiving : List Train → List Train) : Type 0 where
+-- from d to e, where the step makes `sending sent` of the numbers sent from there, and `receiving got` of those received
+record Passes (d e : Side) (sending receiving : List ℕ → List ℕ) : Type 0 where
   made : Made e
-  order : (sent got : List Train) → sent ≡ got ++ trains_on x d → sending sent ≡ receiving got ++ trains_on x e
+  order : (sent got : List ℕ) → sent ≡ got ++ line_of d → sending sent ≡ receiving got ++ line_of e
 
-stays : (x : Station) (d : Side) → Made d → Passes x d d (λ l. l) (λ l. l)
-stays x d m = record { made = m; order = λ sent got h. h }
+stays : (d : Side) → Made d → Passes d d (λ l. l) (λ l. l)
+stays d m = record { made = m; order = λ sent got h. h }
 
-departs : (x : Station) (d : Side) (time : ℕ) → Made d → LastPasses d.len d.last → Passes x d (departed d time) (λ l. l ++ (x, d.last + 1) ∷ []) (λ l. l)
-departs x d time m p =
+departs : (d : Side) (time : ℕ) → Made d → LastPasses d.len d.last → Passes d (departed d time) (λ l. l ++ (d.last + 1) ∷ []) (λ l. l)
+departs d time m p =
     let next : List ℕ = (d.last + 1) ∷ [] in
     let fits : length (line_of d ++ next) ≤ 12 = simp length-append (omega (arith, line_length d, p.room)) in
     record {
       made =
           made-side time (d.last + 1) (Since time) (line_of d ++ next) fits (omega (arith, p.unused)) (rising_next 0 d.last (line_of d) (omega arith) m.rises)
           (le-leb time time (omega arith));
-      order = λ sent got h.
-          rw (line_there time (d.last + 1) (Since time) (line_of d ++ next) fits, map-append {B = Train} (λ (n : ℕ). (x, n)) (line_of d) next)
-          (ap (◌++ (x, d.last + 1) ∷ []) h ∙ append_assoc got (trains_on x d) ((x, d.last + 1) ∷ []));
+      order = λ sent got h. rw (line_there time (d.last + 1) (Since time) (line_of d ++ next) fits) (ap (◌++ next) h ∙ append_assoc got (line_of d) next);
     }
 
 -- the side of the station that receives, and that of the train it receives
-receives : (x : Station) (d : Side) (time : ℕ) → Made d → d.clock ≤ time → Passes x d (with_clock d time) (λ l. l) (λ l. l)
-receives x d time m h =
+receives : (d : Side) (time : ℕ) → Made d → d.clock ≤ time → Passes d (with_clock d time) (λ l. l) (λ l. l)
+receives d time m h =
     record { made = record { last = m.last; len = m.len; rises = m.rises; blank = m.blank; minute = later d.interval m.minute }; order = λ sent got p. p }
   where
     later : (i : Interval) → not_later i d.clock ≡ true → not_later i time ≡ true
     later Stopped p = refl
     later (Since minute) p = le-leb minute time (omega (arith, leb-true minute d.clock p))
 
--- where the receipt names the sender x and the first number on its line
-clears : (x : Station) (d : Side) (sender : Station) (form : ℕ) → Made d → sender ≡ x → is_first form (line_of d) ≡ true
-    → Passes x d (cleared d) (λ l. l) (λ l. l ++ (sender, form) ∷ [])
-clears x d sender form m is first =
+clears : (d : Side) (form : ℕ) → Made d → is_first form (line_of d) ≡ true → Passes d (cleared d) (λ l. l) (λ l. l ++ form ∷ [])
+clears d form m first =
     let rest : List ℕ = drop 1 (line_of d) in
     let fits : length rest ≤ 12 = simp length-drop (omega (arith, line_length d, m.len)) in
-    let named : trains_on x d ≡ (sender, form) ∷ map (λ (n : ℕ). (x, n)) rest = ap (map (λ (n : ℕ). (x, n))) (first_rest form (line_of d) first) ∙ rw is in
     record {
       made = made-side d.clock d.last d.interval rest fits m.last (rising_rest 0 d.last (line_of d) m.rises) m.minute;
       order = λ sent got h.
-          rw (line_there d.clock d.last d.interval rest fits)
-          (h ∙ ap (got ++◌) named ∙ sym (append_assoc got ((sender, form) ∷ []) (map (λ (n : ℕ). (x, n)) rest)));
+          rw (line_there d.clock d.last d.interval rest fits) (h ∙ ap (got ++◌) (first_rest form (line_of d) first) ∙ sym (append_assoc got (form ∷ []) rest));
     }
 
 -- ---- the section
@@ -86,8 +76,8 @@ clears x d sender form m is first =
 -- what the entry e, that makes r of s, keeps
 pub record Keeps (s : Section) (e : Decoded) (r : Stepped) : Type 0 where
   pub made : well_made r.section ≡ true
-  pub order : (x : Station) (sent got : List Train) → sent ≡ got ++ on_line s x
-      → departed_by x e r.answer sent ≡ received_by (other_at x) e r.answer got ++ on_line r.section x
+  pub order : (x : Station) (sent got : List ℕ) → sent ≡ got ++ line_of (side_of s x)
+      → departed_by x e r.answer sent ≡ received_by (other_at x) e r.answer got ++ line_of (side_of r.section x)
 
 pub side_of_lem : (s : Section) → well_made s ≡ true → (x : Station) → Made (side_of s x)
 unfolding well_made
@@ -100,7 +90,7 @@ force_with s B d = refl
 
 -- by what becomes of each side, where working stays in force
 keeps : (s : Section) (e : Decoded) (r : Stepped) → r.section.force ≡ true
-    → ((x : Station) → Passes x (side_of s x) (side_of r.section x) (departed_by x e r.answer) (received_by (other_at x) e r.answer)) → Keeps s e r
+    → ((x : Station) → Passes (side_of s x) (side_of r.section x) (departed_by x e r.answer) (received_by (other_at x) e r.answer)) → Keeps s e r
 unfolding well_made
 keeps s e r force each = record {
   made = every_holds (made_tests r.section) (side-made r.section.a (each A).made, (side-made r.section.b (each B).made, (rw force, tt)));
@@ -111,20 +101,14 @@ kept_refusal : (s : Section) (e : Decoded) (why : Refusal) → well_made s ≡ t
 unfolding well_made
 kept_refusal s e why h = record { made = h; order = order e }
   where
-    order : (e : Decoded) (x : Station) (sent got : List Train) → sent ≡ got ++ on_line s x
-        → departed_by x e (answer.Refused why) sent ≡ received_by (other_at x) e (answer.Refused why) got ++ on_line (refused s e why).section x
+    order : (e : Decoded) (x : Station) (sent got : List ℕ) → sent ≡ got ++ line_of (side_of s x)
+        → departed_by x e (answer.Refused why) sent ≡ received_by (other_at x) e (answer.Refused why) got ++ line_of (side_of (refused s e why).section x)
     order (Bad w) A sent got p = p
     order (Bad w) B sent got p = p
     order (Says e) A sent got p = p
     order (Says e) B sent got p = p
 
-same-station : (x y : Station) → same_station x y ≡ true → x ≡ y
-same-station A A e = refl
-same-station A B e = absurd (false≢true e)
-same-station B A e = absurd (false≢true e)
-same-station B B e = refl
-
--- what an accepted RECEIVE found: the clock, the other as its sender, and the first on the other's line
+-- what an accepted RECEIVE found: the clock, and the first on the other's line
 module _ (s : Section) (y : Station) (time : ℕ) (sender : Station) (form : ℕ) (n : NoneHolds (tests_of s (Receive y time sender form))) where
   abbrev theirs : Side
   theirs = side_of s (other_at y)
@@ -132,14 +116,8 @@ module _ (s : Section) (y : Station) (time : ℕ) (sender : Station) (form : ℕ
   in_time : (side_of s y).clock ≤ time
   in_time = ltb-false time (side_of s y).clock n.1.0
 
-  passed : (same_station sender (other_at y) ≡ true) × (is_first form (line_of theirs) ≡ true)
-  passed = both (same_station sender (other_at y)) (is_first form (line_of theirs)) (not-false (same_station sender (other_at y) && is_first form (line_of theirs)) n.1.1.0)
-
-  the_sender : sender ≡ other_at y
-  the_sender = same-station sender (other_at y) passed.0
-
   the_first : is_first form (line_of theirs) ≡ true
-  the_first = passed.1
+  the_first = (both (same_station sender (other_at y)) (is_first form (line_of theirs)) (not-false (same_station sender (other_at y) && is_first form (line_of theirs)) n.1.1.0)).1
 
 may_depart : (s : Section) (y : Station) (time : ℕ) → NoneHolds (tests_of s (Depart y time)) → LastPasses (side_of s y).len (side_of s y).last
 may_depart s y time n = last_passes (side_of s y).len (side_of s y).last (side_of s y).interval time n.1.1
@@ -148,34 +126,34 @@ kept_effect : (s : Section) (e : Event) → well_made s ≡ true → NoneHolds (
 unfolding pad_with well_made
 kept_effect s Begin h n = record { made = refl; order = order }
   where
-    order : (x : Station) (sent got : List Train) → sent ≡ got ++ on_line s x → [] ≡ on_line (emptied true s.refused) x
+    order : (x : Station) (sent got : List ℕ) → sent ≡ got ++ line_of (side_of s x) → [] ≡ line_of (side_of (emptied true s.refused) x)
     order A sent got p = refl
     order B sent got p = refl
 kept_effect s (Depart y time) h n = keeps s (Says (Depart y time)) (effect_of s (Depart y time)) (force_with s y _ ∙ not-false s.force n.0) (by y n)
   where
     by : (y : Station) → NoneHolds (tests_of s (Depart y time)) → (x : Station)
-        → Passes x (side_of s x) (side_of (effect_of s (Depart y time)).section x) (departed_by x (Says (Depart y time)) (effect_of s (Depart y time)).answer) (λ l. l)
-    by A n A = departs A s.a time (side_of_lem s h A) (may_depart s A time n)
-    by A n B = stays B s.b (side_of_lem s h B)
-    by B n A = stays A s.a (side_of_lem s h A)
-    by B n B = departs B s.b time (side_of_lem s h B) (may_depart s B time n)
+        → Passes (side_of s x) (side_of (effect_of s (Depart y time)).section x) (departed_by x (Says (Depart y time)) (effect_of s (Depart y time)).answer) (λ l. l)
+    by A n A = departs s.a time (side_of_lem s h A) (may_depart s A time n)
+    by A n B = stays s.b (side_of_lem s h B)
+    by B n A = stays s.a (side_of_lem s h A)
+    by B n B = departs s.b time (side_of_lem s h B) (may_depart s B time n)
 kept_effect s (Receive y time sender form) h n =
     keeps s (Says (Receive y time sender form)) (effect_of s (Receive y time sender form))
     (force_with (with_side s y _) (other_at y) _ ∙ force_with s y _ ∙ not-false s.force n.0) (by y n)
   where
     by : (y : Station) → NoneHolds (tests_of s (Receive y time sender form)) → (x : Station)
-        → Passes x (side_of s x) (side_of (effect_of s (Receive y time sender form)).section x) (λ l. l)
+        → Passes (side_of s x) (side_of (effect_of s (Receive y time sender form)).section x) (λ l. l)
         (received_by (other_at x) (Says (Receive y time sender form)) (effect_of s (Receive y time sender form)).answer)
-    by A n A = receives A s.a time (side_of_lem s h A) (in_time s A time sender form n)
-    by A n B = clears B s.b sender form (side_of_lem s h B) (the_sender s A time sender form n) (the_first s A time sender form n)
-    by B n A = clears A s.a sender form (side_of_lem s h A) (the_sender s B time sender form n) (the_first s B time sender form n)
-    by B n B = receives B s.b time (side_of_lem s h B) (in_time s B time sender form n)
+    by A n A = receives s.a time (side_of_lem s h A) (in_time s A time sender form n)
+    by A n B = clears s.b form (side_of_lem s h B) (the_first s A time sender form n)
+    by B n A = clears s.a form (side_of_lem s h A) (the_first s B time sender form n)
+    by B n B = receives s.b time (side_of_lem s h B) (in_time s B time sender form n)
 kept_effect s Resume h n = record { made = refl; order = order }
   where
     none : s.a.len + s.b.len ≡ 0
     none = no_test (s.a.len + s.b.len) n.1.0
 
-    order : (x : Station) (sent got : List Train) → sent ≡ got ++ on_line s x → sent ≡ got ++ on_line (emptied false s.refused) x
+    order : (x : Station) (sent got : List ℕ) → sent ≡ got ++ line_of (side_of s x) → sent ≡ got ++ line_of (side_of (emptied false s.refused) x)
     order A sent got p = let empty : s.a.len ≡ 0 = omega (arith, none) in rw empty at p
     order B sent got p = let empty : s.b.len ≡ 0 = omega (arith, none) in rw empty at p
 

@@ -1,7 +1,7 @@
 -- Bytes copied into an array, or put at a place; and two slices compared byte by byte.
 -- Assumes nothing.
 use Prim.Native.Nat.{◌+◌, ◌<◌, ◌≤◌, suc, zero, ℕ}
-use Rattle.working.proofs.theorems.Positions.{position_read_then_written, same_bytes_lem}
+use Rattle.working.proofs.theorems.Positions.{read_then_written, same_bytes_lem}
 use Rattle.working.specs.Entries.{pasted}
 use Rattle.working.specs.Positions.{is_position, same_bytes}
 use lib.Dec.{eqb}
@@ -47,7 +47,7 @@ pub other_position : (bytes : List ℕ) → (length bytes ≡ 281 → ⊥) → f
 other_position bytes differ = by (is_position bytes) refl
   where
     by : (t : Bool) → is_position bytes ≡ t → false ≡ t
-    by true h = absurd (differ (position_read_then_written bytes h).0)
+    by true h = absurd (differ (read_then_written bytes h).0)
     by false h = refl
 
 pub same_next : (a b : List ℕ) (i : ℕ) → i < length a → length a ≡ length b

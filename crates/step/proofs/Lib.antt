@@ -1,4 +1,4 @@
--- ---- what is cited: the blocks are the listing, the last line counts the lines above it by either table, a single line's listing fits its room, and it ends
+-- ---- what is cited: the blocks are the listing, the last line counts the lines above it, the listing fits its room, and it ends
 pub mod Whole
 pub mod LastLine
 pub mod Room
@@ -11,11 +11,7 @@ pub mod Own
 -- ---- a listing: the line that comes next, and the filling of a block
 pub mod Next
 pub mod Filling
--- ---- what the forms of the step and the running of a log promise, by their contracts
-pub mod OfContracts
--- ---- texts and numbers stored, listings by computation, and what the theorems say of logs written out
+-- ---- texts and numbers stored, and listings by computation
 pub mod Containing
 pub mod Stored
 pub mod Examples
-pub mod Consequences
-pub mod OfBlocks

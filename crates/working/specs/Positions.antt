@@ -221,12 +221,12 @@ pub record StepsPosition (position entry numbers : List ℕ) (answer : ℕ) (pos
 -- ---- what is shown
 
 -- A section written and read is the same section; its array has 24 places, as its type says.
-abbrev pub PositionWrittenThenRead : Type 0
-PositionWrittenThenRead = (s : Section) → length s.vehicles ≡ 24 → well_made s ≡ true → (is_position (position_of s) ≡ true) × (section_at (position_of s) ≡ s)
+abbrev pub WrittenThenRead : Type 0
+WrittenThenRead = (s : Section) → length s.vehicles ≡ 24 → well_made s ≡ true → (is_position (position_of s) ≡ true) × (section_at (position_of s) ≡ s)
 
 -- Bytes that read are 281, and are written as the same bytes.
-abbrev pub PositionReadThenWritten : Type 0
-PositionReadThenWritten = (bytes : List ℕ) → is_position bytes ≡ true → (length bytes ≡ 281) × (position_of (section_at bytes) ≡ bytes)
+abbrev pub ReadThenWritten : Type 0
+ReadThenWritten = (bytes : List ℕ) → is_position bytes ≡ true → (length bytes ≡ 281) × (position_of (section_at bytes) ≡ bytes)
 
 -- The step on a section's position leaves the position of the section after it.
 abbrev pub StepWritten : Type 0

@@ -73,7 +73,7 @@ running_with kind x asked granted = 0x6F ∷ kind ∷ number_at x ∷ 0 ∷ 100 
 
 -- ---- refusals, in rising order: a desk with every reason against the kind loses them one by one
 
--- OPEN, THROUGH: 9, 10, 11, 12, 13, 17, 18, 19, the last also in the very minute of the departure before
+-- OPEN, THROUGH: 9, 10, 11, 12, 13, 17, 18, 19
 abbrev open_refused : Station → List ℕ → List Edge
 open_refused x bytes =
     refused (Of x) fresh bytes NotInForce
@@ -85,7 +85,6 @@ open_refused x bytes =
     ∷ refused (Of x) (seen_from x [] (figures 100 9999 12 (Since 71) false 0 8 0 0)) bytes TwelveSent
     ∷ refused (Of x) (seen_from x [] (figures 100 9999 11 (Since 71) false 0 8 0 0)) bytes FormsUsed
     ∷ refused (Of x) (seen_from x [] (figures 100 9998 11 (Since 71) false 0 8 0 0)) bytes IntervalRunning
-    ∷ refused (Of x) (seen_from x [] (figures 100 9998 11 (Since 100) false 0 8 0 0)) bytes IntervalRunning
     ∷ []
 
 -- RETURN: 9, 14, 16, 17, 18, 19; out set, owes above 0 and, T-08, holds above 0 are no reason
@@ -99,7 +98,6 @@ return_refused x =
     ∷ refused (Of x) (seen_from x [] (figures 100 9999 12 (Since 71) true 1 3 8 8)) (returning_with x 1 3) TwelveSent
     ∷ refused (Of x) (seen_from x [] (figures 100 9999 11 (Since 71) true 1 3 8 8)) (returning_with x 1 3) FormsUsed
     ∷ refused (Of x) (seen_from x [] (figures 100 9998 11 (Since 71) true 1 3 8 8)) (returning_with x 1 3) IntervalRunning
-    ∷ refused (Of x) (seen_from x [] (figures 100 9998 11 (Since 100) true 1 3 8 8)) (returning_with x 1 3) IntervalRunning
     ∷ []
 
 -- TRAIN, endorsed as the last or not (kind 5 or 9): 9, 15, 16 for a grant above asked, 16 for a grant while owes is above 0, 17, 18, 19; out set, a guest, and a grant
@@ -115,7 +113,6 @@ train_refused kind x =
     ∷ refused (Of x) (seen_from x [] (figures 100 9999 12 (Since 71) true 1 3 2 0)) (running_with kind x 1 3) TwelveSent
     ∷ refused (Of x) (seen_from x [] (figures 100 9999 11 (Since 71) true 1 3 2 0)) (running_with kind x 1 3) FormsUsed
     ∷ refused (Of x) (seen_from x [] (figures 100 9998 11 (Since 71) true 1 3 2 0)) (running_with kind x 1 3) IntervalRunning
-    ∷ refused (Of x) (seen_from x [] (figures 100 9998 11 (Since 100) true 1 3 2 0)) (running_with kind x 1 3) IntervalRunning
     ∷ []
 
 -- a desk that may receive, where line clears wait while it owes; one that owes a single train, and one that owes none

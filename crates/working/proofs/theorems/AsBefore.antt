@@ -16,14 +16,13 @@ use Rattle.working.proofs.invariant.Sides.{moves_far, moves_met, moves_none, mov
 use Rattle.working.proofs.laws.Clauses.{Shape}
 use Rattle.working.proofs.laws.Lists.{ListAs, each_result, next_as, step_did}
 use Rattle.working.proofs.laws.Reasons.{depart_passes, receive_passes}
-use Rattle.working.proofs.laws.Tests.{NoneHolds, both, clash, no_test, none_holds, or_left, or_right, some_test, zero_test}
+use Rattle.working.proofs.laws.Tests.{NoneHolds, both, no_test, none_holds, or_left, or_right, some_test, zero_test}
 use Rattle.working.proofs.laws.Vehicles.{From, NotFrom, every-end, nearest, not_other, number_same, ordered_far}
-use Rattle.working.proofs.theorems.KindNine.{is_endorsed, no_kind_nine, none_last, not_endorsed, says_last}
-use Rattle.working.proofs.theorems.Speeds.{tb602_speed_as_01}
+use Rattle.working.proofs.theorems.KindNine.{no_kind_nine, none_last}
 use Rattle.working.specs.Acts as acts
 use Rattle.working.specs.Acts.{Act}
-use Rattle.working.specs.Document01.{AnsweredAsBefore, altered, arrive_desk_01, decode01, entered_by, followers_two, is_follower, is_kind_above_8, on_decoded_by, other_desk_01}
-use Rattle.working.specs.Document01.{plan_of_01, return_tests_01, step_of_01, tests_by, train_speed_01, train_tests_01, with_elsewhere, with_second_figure}
+use Rattle.working.specs.Document01.{AnsweredAsBefore, altered, arrive_desk_01, at_speed, decode01, entered_by, followers_two, holds_after_01, is_follower, is_kind_nine}
+use Rattle.working.specs.Document01.{on_decoded_by, plan_of_01, return_tests_01, step_of_01, tests_by, train_speed_01, train_tests_01, with_elsewhere, with_second_figure}
 use Rattle.working.specs.Effects.{Arrive, Depart, Plan, Refuse, arrive_desk, effect_of, granted_in, other_desk, own_desk, replied, train_speed}
 use Rattle.working.specs.Events.{At, Bad, Begin, Decoded, Meet, Resume, Says, decode}
 use Rattle.working.specs.Reasons.{depart_tests, may_enter, return_tests, tests_of, train_tests}
@@ -92,7 +91,7 @@ own_same d t (LastTrain a g u) is empty = absurd (false≢true is)
 
 -- and the other's leaves the desk that document 01 has it leave
 other_same : (d : Desk) (t class : ℕ) (m : Movement) → d.clears.holds ≡ 0 → d.waiting ≡ 0 → (0 < granted_in m → (other_desk d t class m).clears.owes ≡ 0)
-    → replied (granted_in m) (other_desk d t class m) ≡ other_desk_01 d t class m
+    → replied (granted_in m) (other_desk d t class m) ≡ with_holds (holds_after_01 m d.clears.holds) (other_desk d t class m)
 other_same d t class (Open a) none empty pays = nothing_replied 0 _ refl empty
 other_same d t class Through none empty pays = nothing_replied 0 _ refl empty
 other_same d t class (Return a g) none empty pays = grant_held g _ none empty pays
@@ -159,12 +158,6 @@ same_tests d granted free none =
     let above = or_left (ltb d.clears.asked granted) _ none.1.0 in
     rw (none.1.0, above, zero_test d.clears.owes free, and-false (ltb 0 granted))
 
--- a departure, at another speed
-abbrev at_speed : Speed → Plan → Plan
-at_speed speed (Refuse why) = Refuse why
-at_speed speed (Depart p) = Depart (record { desk = p.desk; vehicle = p.vehicle; order = record { forms = p.order.forms; speed = speed } })
-at_speed speed (Arrive d) = Arrive d
-
 -- a plan with a second figure beside a departure's speed, where that is a follower's
 abbrev figured : Bool → Plan → Plan
 figured follower (Refuse why) = Refuse why
@@ -189,25 +182,24 @@ record ActAs (act : Act) (x : Station) (force : Bool) (d : Desk) (time : ℕ) (v
   allowed : Allowed01 act d
 
 act_as : (act : Act) (x : Station) (force : Bool) (d o : Desk) (time : ℕ) (l : List Vehicle) → Well x d o l → Between x d o l → RepliesLast x d o l
-    → is_endorsed act ≡ false → first_of (tests_by train_tests_01 act x force d time (nearest_at x l)) ≡ Allowed → ActAs act x force d time (nearest_at x l)
-act_as (acts.Open view class asked) x force d o time l w h k plain passes = record { plan = rw (tb602_speed_as_01 view) (unfigured _); allowed = tt }
-act_as (acts.Through view) x force d o time l w h k plain passes = record { plan = rw (tb602_speed_as_01 view) (unfigured _); allowed = tt }
-act_as (acts.Return asked granted) x force d o time l w h k plain passes =
+    → first_of (tests_by return_tests_01 train_tests_01 act x force d time (nearest_at x l)) ≡ Allowed → ActAs act x force d time (nearest_at x l)
+act_as (acts.Open view class asked) x force d o time l w h k passes = record { plan = unfigured _; allowed = tt }
+act_as (acts.Through view) x force d o time l w h k passes = record { plan = unfigured _; allowed = tt }
+act_as (acts.Return asked granted) x force d o time l w h k passes =
     let own = (depart_passes force d time (return_tests_01 d granted) (none_holds (depart_tests force d time (return_tests_01 d granted)) passes)).own in
     let today : first_of (depart_tests force d time (return_tests d granted)) ≡ Allowed = rw own.0 at passes in
     record { plan = rw (passes, today) (unfigured _); allowed = tt }
-act_as (acts.Train true view asked granted) x force d o time l w h k plain passes = absurd (clash refl plain)
-act_as (acts.Train false view asked granted) x force d o time l w h k plain passes =
+act_as (acts.Train endorsed view asked granted) x force d o time l w h k passes =
     let own = (depart_passes force d time (train_tests_01 d granted) (none_holds (depart_tests force d time (train_tests_01 d granted)) passes)).own in
     let leaves-some = or_right (ltb d.clears.asked granted) (ltb 0 granted && ltb 1 d.clears.holds) own.1.0 in
     let same = same_tests d granted (k.own.owes (some_test _ own.0)) own in
-    let effect = effect_of (acts.Train false view asked granted) x d time (nearest_at x l) in
+    let effect = effect_of (acts.Train endorsed view asked granted) x d time (nearest_at x l) in
     record {
       plan = ap (λ (tests : List Test). unless_refused (first_of (depart_tests force d time tests)) effect) same
           ∙ rw passes (ap (λ (speed : Speed). at_speed speed effect) (train_speed_lem (eqb d.sent 0) view));
       allowed = λ some. ltb-false 1 _ (rw (lt-ltb 0 granted some) at leaves-some);
     }
-act_as (acts.Receive sender form) x force d o time l w h k plain passes =
+act_as (acts.Receive sender form) x force d o time l w h k passes =
     let p = receive_passes force d time x sender form (nearest_at x l) (none_holds (tests_of (acts.Receive sender form) x force d time (nearest_at x l)) passes) in
     let n = nearest x l (named_there sender form x l p.named) in
     let same = (taken_as x d o time n.vehicle n.others (rw n.whole at w) (rw n.whole at h) (rw n.whole at k) (rw n.near at p.enters)).same in
@@ -246,17 +238,16 @@ entered_as s x time act plan =
     let before = plan_of_01 act x s.force (desk_of s x) time (nearest_at x (vehicles_of s)) in
     ap (done_by s e x) plan ∙ done_figured s e x (follows act (desk_of s x)) before
 
-decoded_as_lem : (s : Section) (e : Decoded) → Good s → RepliesLastIn s → says_last e ≡ false → is_accepted (on_decoded_by plan_of_01 s e).answer ≡ true
+decoded_as_lem : (s : Section) (e : Decoded) → Good s → RepliesLastIn s → is_accepted (on_decoded_by plan_of_01 s e).answer ≡ true
     → (on_decoded s e ≡ altered (is_follower s e) with_second_figure (on_decoded_by plan_of_01 s e)) × Allows s e
-unfolding entered
-decoded_as_lem s (Bad why) g k plain accepted = absurd (false≢true accepted)
-decoded_as_lem s (Says Begin) g k plain accepted = (refl, tt)
-decoded_as_lem s (Says (At x time act)) g k plain accepted =
+decoded_as_lem s (Bad why) g k accepted = absurd (false≢true accepted)
+decoded_as_lem s (Says Begin) g k accepted = (refl, tt)
+decoded_as_lem s (Says (At x time act)) g k accepted =
     let passes = passes01 s (Says (At x time act)) x _ _ accepted in
-    let a = act_as act x s.force (desk_of s x) (desk_of s (other_at x)) time (vehicles_of s) (well_at s x g.sound) (kept_at x s g) (last_at x s k) plain passes in
+    let a = act_as act x s.force (desk_of s x) (desk_of s (other_at x)) time (vehicles_of s) (well_at s x g.sound) (kept_at x s g) (last_at x s k) passes in
     (entered_as s x time act a.plan, a.allowed)
-decoded_as_lem s (Says (Meet x sender form)) g k plain accepted = (refl, tt)
-decoded_as_lem s (Says Resume) g k plain accepted = (refl, tt)
+decoded_as_lem s (Says (Meet x sender form)) g k accepted = (refl, tt)
+decoded_as_lem s (Says Resume) g k accepted = (refl, tt)
 
 last-emptied : RepliesLast A fresh_desk fresh_desk []
 last-emptied = record { own = none; far = none }
@@ -284,7 +275,7 @@ last_change s e r g k allows (meeting x y n i f w) =
     let present = vehicles_with 24 (met_at x i (vehicles_of s)) w.fits in
     record { own = rw (present, moves_met A x i (vehicles_of s)) k.own; far = rw (present, moves_met B x i (vehicles_of s)) k.far }
 
-step_01_is : (s : Section) (bytes : List ℕ) → well_made s ≡ true → is_kind_above_8 bytes ≡ false → step_of_01 s bytes ≡ on_decoded_by plan_of_01 s (decode bytes)
+step_01_is : (s : Section) (bytes : List ℕ) → well_made s ≡ true → is_kind_nine bytes ≡ false → step_of_01 s bytes ≡ on_decoded_by plan_of_01 s (decode bytes)
 unfolding decode01 step_of_01
 step_01_is s bytes made other = rw (made, other)
 
@@ -292,9 +283,8 @@ step_as : (s : Section) (bytes : List ℕ) → Good s → RepliesLastIn s → is
     → (step_of s bytes ≡ followers_two step_of_01 s bytes) × RepliesLastIn (step_of s bytes).section
 step_as s bytes g k accepted =
     let made = g.sound.well in
-    let other = no_kind_nine s bytes accepted in
-    let is = step_01_is s bytes made other in
-    let (same, allows) = decoded_as_lem s (decode bytes) g k (not_endorsed bytes other) (rw is at accepted) in
+    let is = step_01_is s bytes made (no_kind_nine s bytes accepted) in
+    let (same, allows) = decoded_as_lem s (decode bytes) g k (rw is at accepted) in
     (step_is s bytes made ∙ same ∙ ap (altered (is_follower s (decode bytes)) with_second_figure) (sym is), last_change s (decode bytes) (step_of s bytes) g k allows (change s bytes g.sound))
 
 -- ---- the list

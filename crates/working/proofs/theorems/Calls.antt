@@ -1,38 +1,37 @@
--- Lists of calls, whole: of every list of steps, stores and fetches from fresh sections and the empty shelf. The statement: specs/Calls.antt.
--- After each call every section's position is that of the section which its history leads to, the shelf is one, and under each name it has nothing, or the position that the
--- name's own history leads to, with the call that stored it last. Every history leads to a well-made section, so that every position on the way reads: no call is answered 5
--- or 26, a step is answered by the step on that section, and what is fetched was stored. A store leaves every other name what it had (proofs/laws/Shelves.antt). The list grows
--- at its end, and with it what is kept of it.
+-- Lists of calls, whole: of every list of steps, stores and fetches from the fresh section and the empty shelf. The statement: specs/Calls.antt.
+-- After each call the position is that of the section which its history leads to, and the shelf is laid out from the names stored so far, each with the position that its own
+-- history leads to and with the call that stored it last. Every history leads to a well-made section, so that every position on the way reads and every shelf is one: no call
+-- is answered 5 or 26, a step is answered by the step on that section, and what is fetched was stored. The list grows at its end, and with it what is kept of it.
 -- Assumes nothing.
-use Prim.Native.Nat.{◌*◌, ◌+◌, ℕ}
+use Prim.Native.Nat.{◌+◌, ◌≤◌, ℕ}
 use Rattle.working.proofs.invariant.Changes.{Sound}
+use Rattle.working.proofs.laws.Every.{Every, every_map}
 use Rattle.working.proofs.laws.Lists.{step_by}
 use Rattle.working.proofs.laws.Numbers.{step_counted}
 use Rattle.working.proofs.laws.Scans.{scanned_each}
-use Rattle.working.proofs.laws.Shelves.{StoreLeaves, empty_made, kept_in, store_leaves, zero_keeps, zero_replicate}
+use Rattle.working.proofs.laws.Shelves.{AllNames, Distinct, added, distinct_added, empty_laid, every_added, fetch_laid, laid_out, shelf_laid, store_laid}
 use Rattle.working.proofs.laws.Tests.{and, both, clash, each_holds}
 use Rattle.working.proofs.theorems.Demand3.{demand3, kept}
-use Rattle.working.proofs.theorems.Positions.{bytes_same, position_fresh, position_of_lem, position_read_then_written, same_bytes_lem, section_again}
-use Rattle.working.specs.Calls.{Call, CallBy, Calls, CallsHold, Histories, Kept, LastStored, OthersStay, answered_by, fetched, history_of, is_store_of, leads_to, leaves_all}
-use Rattle.working.specs.Calls.{next, no_history, none_answered, none_stores, start, stepped, steps_from, stop, stored, with_call, with_calls, with_own}
-use Rattle.working.specs.Entries.{every}
+use Rattle.working.proofs.theorems.Positions.{bytes_same, position_fresh, position_of_lem, read_then_written, same_bytes_lem, section_again}
+use Rattle.working.specs.Calls.{Call, CallBy, Calls, CallsHold, Histories, Kept, LastStored, answered_by, fetched, history_of, is_store_of, leads_to, leaves_all, next, no_history}
+use Rattle.working.specs.Calls.{none_answered, none_stores, start, stepped, steps_from, stop, stored, with_call, with_calls}
+use Rattle.working.specs.Entries.{every, pasted}
 use Rattle.working.specs.Positions.{if_allowed, is_position, position_of, refusal_in, refusal_of, same_bytes, section_at, step_tests}
 use Rattle.working.specs.Refusals.{first_of}
 use Rattle.working.specs.Runs as runs
 use Rattle.working.specs.Runs.{Run, in_place}
 use Rattle.working.specs.Sections.{fresh}
-use Rattle.working.specs.Shelves.{fetch_tests, fetched_from, is_name, is_shelf, place_named, position_in, store_tests, stored_in}
+use Rattle.working.specs.Shelves.{fetch_tests, fetched_from, is_name, is_shelf, place_named, store_tests, stored_in}
 use Rattle.working.specs.Steps.{step_of}
 use Rattle.working.specs.declared.Section.{Section}
 use Rattle.working.specs.declared.Verdict.{Verdict}
-use borrow.Author.Tests.{eqb-true, ne_eqb, not-false, not-true}
+use borrow.Author.Tests.{ltb-false, ne_eqb, not-false, not-true}
 use lib.Dec.{eqb}
-use lib.ListN.{drop, length, replicate, take}
-use lib.Seq.{take_at}
-use mathlib.Core.Bool.{Bool, ◌&&◌, and-false, cond, false, false≢true, not, true}
+use lib.ListN.{drop, drop_of_length-le, length, length-take, take, take-append-drop}
+use mathlib.Core.Bool.{Bool, ◌&&◌, and-false, false, false≢true, not, true}
 use mathlib.Core.List.{List, [], ◌++◌, ◌∷◌, append_assoc, append-nil}
-use mathlib.Core.Option.{Option, none, some}
-use mathlib.Core.Path.{◌∙◌, ◌≡◌, ap, refl, sym}
+use mathlib.Core.Path.{◌∙◌, ◌≡◌, ap, ap₂, refl, sym}
+use native.Mathlib.Omega.{arith}
 
 -- ---- a history
 
@@ -40,23 +39,23 @@ history_run : (s : Section) (h : List (List ℕ)) → Run s (steps_from s h) (le
 history_run s [] = runs.stop
 history_run s (bytes ∷ h) = runs.next (step_by in_place s bytes refl refl) (history_run (step_of s bytes).section h)
 
-pub leads_last : (s : Section) (h : List (List ℕ)) (bytes : List ℕ) → leads_to s (h ++ bytes ∷ []) ≡ (step_of (leads_to s h) bytes).section
+leads_last : (s : Section) (h : List (List ℕ)) (bytes : List ℕ) → leads_to s (h ++ bytes ∷ []) ≡ (step_of (leads_to s h) bytes).section
 leads_last s [] bytes = refl
 leads_last s (first ∷ h) bytes = leads_last (step_of s first).section h bytes
 
 -- the position that a history leads to from fresh
-abbrev pub placed : List (List ℕ) → List ℕ
+abbrev placed : List (List ℕ) → List ℕ
 placed h = position_of (leads_to fresh h)
 
 module _ (h : List (List ℕ)) where
-  pub sound : Sound (leads_to fresh h)
+  sound : Sound (leads_to fresh h)
   sound = (kept (history_run fresh h)).good.sound
 
-  pub reads : is_position (placed h) ≡ true
+  reads : is_position (placed h) ≡ true
   reads = position_of_lem (leads_to fresh h) sound.places sound.well
 
-  pub long : length (placed h) ≡ 281
-  long = (position_read_then_written (placed h) reads).0
+  long : length (placed h) ≡ 281
+  long = (read_then_written (placed h) reads).0
 
   again : section_at (placed h) ≡ leads_to fresh h
   again = section_again (leads_to fresh h) sound.places sound.well
@@ -81,31 +80,37 @@ module _ (test : Call → Bool) (none : List Call → Bool) (nothing : none [] �
 later_call : {name position : List ℕ} {l : List Call} (c : Call) → is_store_of name c ≡ false → LastStored name l position → LastStored name (l ++ c ∷ []) position
 later_call {name} c other s = record {
   before = s.before;
-  section = s.section;
   since = s.since ++ c ∷ [];
-  is = ap (◌++ c ∷ []) s.is ∙ append_assoc s.before (stored s.section name 0 ∷ s.since) (c ∷ []);
+  is = ap (◌++ c ∷ []) s.is ∙ append_assoc s.before (stored name 0 ∷ s.since) (c ∷ []);
   last = none_last (is_store_of name) (none_stores name) refl (λ c l. refl) s.since c s.last other;
   then = s.then;
 }
 
 -- ---- what every list keeps
 
--- under a name: nothing, or the position that its history leads to, with the call that stored it last
-abbrev OnShelf : List Call → List ℕ → Option (List ℕ) → Type 0
-OnShelf l name none = Unit {0}
-OnShelf l name (some position) = (position ≡ placed ((after l).under name)) × LastStored name l position
+-- what is kept under each name, by its history
+abbrev keeps : (List ℕ → List (List ℕ)) → List ℕ → List ℕ
+keeps history name = placed (history name)
+
+record OnShelf (l : List Call) (name : List ℕ) : Type 0 where
+  named : is_name name ≡ true
+  last : LastStored name l (keeps (after l).under name)
 
 record Holds (l : List Call) (k : Kept) : Type 0 where
-  sections : (i : ℕ) → k.sections i ≡ placed ((after l).own i)
-  shelf : is_shelf k.shelf ≡ true
-  under : (name : List ℕ) → is_name name ≡ true → OnShelf l name (kept_in k.shelf name)
+  position : k.position ≡ placed (after l).own
+  names : List (List ℕ)
+  apart : Distinct names
+  each : Every (OnShelf l) names
+  shelf : k.shelf ≡ laid_out (keeps (after l).under) 16 names
   made : (none_answered 5 l ≡ true) × (none_answered 26 l ≡ true)
 
 holds-start : Holds [] start
 holds-start = record {
-  sections = λ i. sym position_fresh;
-  shelf = empty_made;
-  under = λ name is. rw (zero_keeps (replicate 4688 0) (zero_replicate 4688) name) tt;
+  position = sym position_fresh;
+  names = [];
+  apart = tt;
+  each = tt;
+  shelf = empty_laid (keeps no_history.under) (λ name. long []) 16;
   made = (refl, refl);
 }
 
@@ -120,60 +125,42 @@ made-last l c fine made = (last 5 made.0 fine.0, last 26 made.1 fine.1)
     last : (n : ℕ) → none_answered n l ≡ true → eqb (answered_by c) n ≡ false → none_answered n (l ++ c ∷ []) ≡ true
     last n = none_last (λ c. eqb (answered_by c) n) (none_answered n) refl (λ c l. refl) l c
 
--- a name that the call does not store under keeps what it had
-on_later : (l : List Call) (c : Call) (name : List ℕ) (kept : Option (List ℕ)) → is_store_of name c ≡ false → (with_call c (after l)).under name ≡ (after l).under name
-    → OnShelf l name kept → OnShelf (l ++ c ∷ []) name kept
-on_later l c name none other same on = tt
-on_later l c name (some position) other same (is, last) = (rw (with_last_lem no_history l c, same) is, later_call c other last)
-
 -- a call that stores nothing
 holds_on : {l : List Call} {k m : Kept} (c : Call) → Holds l k → m.shelf ≡ k.shelf → (with_call c (after l)).under ≡ (after l).under
-    → ((name : List ℕ) → is_store_of name c ≡ false) → ((i : ℕ) → m.sections i ≡ placed ((with_call c (after l)).own i)) → Fine (answered_by c) → Holds (l ++ c ∷ []) m
-holds_on {l} {k} c h shelf same other sections fine = record {
-  sections = rw (with_last_lem no_history l c) sections;
-  shelf = rw shelf h.shelf;
-  under = λ name is. rw shelf (on_later l c name (kept_in k.shelf name) (other name) (ap (λ (f : List ℕ → List (List ℕ)). f name) same) (h.under name is));
+    → ((name : List ℕ) → is_store_of name c ≡ false) → m.position ≡ placed (with_call c (after l)).own → Fine (answered_by c) → Holds (l ++ c ∷ []) m
+holds_on {l} c h shelf same other position fine = record {
+  position = rw (with_last_lem no_history l c) position;
+  names = h.names;
+  apart = h.apart;
+  each = every_map (OnShelf l) (OnShelf (l ++ c ∷ [])) (λ name on. record {
+    named = on.named;
+    last = rw (with_last_lem no_history l c, same) (later_call c (other name) on.last);
+  }) h.names h.each;
+  shelf = rw (with_last_lem no_history l c, same) (shelf ∙ h.shelf);
   made = made-last l c fine h.made;
 }
-
--- one section is another's history from now on, and the others stay
-section_moved : {l : List Call} {k : Kept} (m : Kept) (i : ℕ) (history : List (List ℕ)) → Holds l k → OthersStay i k m → m.sections i ≡ placed history
-    → (j : ℕ) → m.sections j ≡ placed ((with_own (after l) i history).own j)
-section_moved {l} m i history h others now j = by (eqb j i) refl
-  where
-    by : (b : Bool) → eqb j i ≡ b → m.sections j ≡ placed (cond b history ((after l).own j))
-    by true e = rw (eqb-true j i e) now
-    by false e = others j e ∙ h.sections j
-
--- all sections stay
-all_stay : (k m : Kept) (i : ℕ) → OthersStay i k m → m.sections i ≡ k.sections i → (j : ℕ) → m.sections j ≡ k.sections j
-all_stay k m i others same j = by (eqb j i) refl
-  where
-    by : (b : Bool) → eqb j i ≡ b → m.sections j ≡ k.sections j
-    by true e = rw (eqb-true j i e) same
-    by false e = others j e
 
 -- a call that is refused with 23, 24 or 25
 abbrev is_quiet : ℕ → Bool
 is_quiet n = every (leaves_all n ∷ not (eqb n 0) ∷ not (eqb n 5) ∷ not (eqb n 26) ∷ [])
 
 leaves : (c : Call) (h : Histories) → leaves_all (answered_by c) ≡ true → with_call c h ≡ h
-leaves (stepped i entry numbers answer out) h e = rw e
-leaves (stored i name answer) h e = rw e
-leaves (fetched i name buffer answer out) h e = rw e
+leaves (stepped entry numbers answer out) h e = rw e
+leaves (stored name answer) h e = rw e
+leaves (fetched name room answer) h e = rw e
 
 stores_not : (c : Call) → eqb (answered_by c) 0 ≡ false → (name : List ℕ) → is_store_of name c ≡ false
-stores_not (stepped i entry numbers answer out) e name = refl
-stores_not (stored i other answer) e name = rw (e, and-false (same_bytes name other))
-stores_not (fetched i other buffer answer out) e name = refl
+stores_not (stepped entry numbers answer out) e name = refl
+stores_not (stored other answer) e name = rw (e, and-false (same_bytes name other))
+stores_not (fetched other room answer) e name = refl
 
-holds-refused : {l : List Call} {k m : Kept} (c : Call) → Holds l k → is_quiet (answered_by c) ≡ true → ((i : ℕ) → m.sections i ≡ k.sections i) → m.shelf ≡ k.shelf
+holds-refused : {l : List Call} {k m : Kept} (c : Call) → Holds l k → is_quiet (answered_by c) ≡ true → m.position ≡ k.position → m.shelf ≡ k.shelf
     → Holds (l ++ c ∷ []) m
-holds-refused {l} c h quiet sections shelf =
+holds-refused {l} c h quiet position shelf =
     let n = answered_by c in
-    let (left, (Some-number, (five, (last, end)))) = each_holds (leaves_all n ∷ not (eqb n 0) ∷ not (eqb n 5) ∷ not (eqb n 26) ∷ []) quiet in
+    let (left, (some, (five, (last, end)))) = each_holds (leaves_all n ∷ not (eqb n 0) ∷ not (eqb n 5) ∷ not (eqb n 26) ∷ []) quiet in
     let same = leaves c (after l) left in
-    holds_on c h shelf (rw same) (stores_not c (not-true (eqb n 0) Some-number)) (λ i. rw same (sections i ∙ h.sections i))
+    holds_on c h shelf (rw same) (stores_not c (not-true (eqb n 0) some)) (rw same (position ∙ h.position))
     (not-true (eqb n 5) five, not-true (eqb n 26) last)
 
 -- ---- each call
@@ -182,123 +169,141 @@ holds-refused {l} c h quiet sections shelf =
 counted_other : (n m : ℕ) → leaves_all n ≡ false → leaves_all m ≡ true → eqb n m ≡ false
 counted_other n m counted leaves = ne_eqb n m (λ same. clash leaves (rw same at counted))
 
-module _ {l : List Call} {k : Kept} (h : Holds l k) (m : Kept) where
-  -- 5 and 26 are never answered
+-- what is put into a buffer of 281 bytes or more of a position is the whole position after it
+put_whole : (room : ℕ) (position before bytes : List ℕ) → length before ≡ 281 → length bytes ≡ 281 → 281 ≤ length (take room before)
+    → take room position ≡ pasted (take room before) 0 bytes → drop room position ≡ drop room before → position ≡ bytes
+put_whole room position before bytes e f full front behind =
+    let taken = length-take room before in
+    let first : take room position ≡ bytes = front ∙ rw (drop_of_length-le (take room before) {i = 0 + length bytes} (omega arith)) (append-nil bytes) in
+    let rest : drop room position ≡ [] = behind ∙ drop_of_length-le before {i = room} (omega arith) in
+    sym (take-append-drop room position) ∙ ap₂ ◌++◌ first rest ∙ append-nil bytes
+
+module _ {l : List Call} {k : Kept} (h : Holds l k) where
+  long_kept : (name : List ℕ) → length (keeps (after l).under name) ≡ 281
+  long_kept name = long ((after l).under name)
+
+  all_named : AllNames h.names
+  all_named = every_map (OnShelf l) (λ name. is_name name ≡ true) (λ name on. on.named) h.names h.each
+
+  -- 26 and 5 are never answered
+  no_26 : {T : Type 0} → not (is_position k.position) ≡ true → T
+  no_26 bad = absurd (clash (rw h.position (reads (after l).own)) (not-true (is_position k.position) bad))
+
   no_5 : {T : Type 0} → not (is_shelf k.shelf) ≡ true → T
-  no_5 bad = absurd (clash h.shelf (not-true (is_shelf k.shelf) bad))
+  no_5 bad =
+      absurd (clash (rw h.shelf (shelf_laid (keeps (after l).under) long_kept (λ name. reads ((after l).under name)) h.names all_named h.apart))
+      (not-true (is_shelf k.shelf) bad))
 
-  no_26 : {T : Type 0} (i : ℕ) → not (is_position (k.sections i)) ≡ true → T
-  no_26 i bad = absurd (clash (rw (h.sections i) (reads ((after l).own i))) (not-true (is_position (k.sections i)) bad))
+  module _ (m : Kept) where
+    -- ---- a step
 
-  -- ---- a step
+    module _ (entry numbers : List ℕ) (answer : ℕ) (out : List ℕ) (same : m.shelf ≡ k.shelf) where
+      abbrev step : Call
+      step = stepped entry numbers answer out
 
-  module _ (i : ℕ) (entry numbers : List ℕ) (answer : ℕ) (out : List ℕ) (others : OthersStay i k m) (same : m.shelf ≡ k.shelf) where
-    abbrev step : Call
-    step = stepped i entry numbers answer out
+      abbrev Steps : Verdict → Type 0
+      Steps v =
+          answer ≡ if_allowed v (refusal_in v) (refusal_of (step_of (section_at k.position) entry).answer)
+          → m.position ≡ if_allowed v k.position (position_of (step_of (section_at k.position) entry).section)
+          → Holds (l ++ step ∷ []) m
 
-    abbrev Steps : Verdict → Type 0
-    Steps v =
-        answer ≡ if_allowed v (refusal_in v) (refusal_of (step_of (section_at (k.sections i)) entry).answer)
-        → m.sections i ≡ if_allowed v (k.sections i) (position_of (step_of (section_at (k.sections i)) entry).section)
-        → Holds (l ++ step ∷ []) m
-
-    holds_step : Steps (first_of (step_tests (k.sections i) numbers))
-    holds_step =
-        scanned_each Steps (step_tests (k.sections i) numbers)
-        (no_26 i, ((λ short answered left. holds-refused step h (rw answered) (all_stay k m i others left) same), tt))
-        (λ passed answered left.
-        let history = (after l).own i in
-        let section : section_at (k.sections i) ≡ leads_to fresh history = rw (h.sections i) (again history) in
-        let counted : leaves_all answer ≡ false = rw (answered, section) (step_counted (leads_to fresh history) entry (sound history).well) in
-        let now : m.sections i ≡ placed (history ++ entry ∷ []) = rw (leads_last fresh history entry) (rw section at left) in
-        holds_on step h same (rw counted) (λ name. refl) (rw counted (section_moved m i (history ++ entry ∷ []) h others now))
-        (counted_other answer 5 counted refl, counted_other answer 26 counted refl))
-
-  -- ---- a store
-
-  module _ (i : ℕ) (name : List ℕ) (same : (j : ℕ) → m.sections j ≡ k.sections j) where
-    abbrev longer : List Call
-    longer = l ++ stored i name 0 ∷ []
-
-    stored_now : OnShelf longer name (some (k.sections i))
-    stored_now = (
-      rw (with_last_lem no_history l (stored i name 0), bytes_same name) (h.sections i),
-      record { before = l; section = i; since = []; is = refl; last = refl; then = h.sections i },
-    )
-
-    holds-stored : StoreLeaves k.shelf name (k.sections i) m.shelf → Holds longer m
-    holds-stored now = record {
-      sections = λ j. rw (with_last_lem no_history l (stored i name 0)) (same j ∙ h.sections j);
-      shelf = now.made;
-      under = λ other is. by other is (same_bytes other name) refl;
-      made = made-last l (stored i name 0) (refl, refl) h.made;
-    }
-      where
-        by : (other : List ℕ) → is_name other ≡ true → (b : Bool) → same_bytes other name ≡ b → OnShelf longer other (kept_in m.shelf other)
-        by other is true e = rw (same_bytes_lem other name e, now.there) stored_now
-        by other is false e =
-            rw (now.others other is e) (on_later l (stored i name 0) other (kept_in k.shelf other) (rw e) (rw e) (h.under other is))
-
-    module _ (answer : ℕ) where
-      abbrev Puts : Verdict → Type 0
-      Puts v = answer ≡ refusal_in v → m.shelf ≡ if_allowed v k.shelf (stored_in k.shelf name (k.sections i)) → Holds (l ++ stored i name answer ∷ []) m
-
-      holds_store : Puts (first_of (store_tests k.shelf name (k.sections i)))
-      holds_store =
-          let leave : is_quiet answer ≡ true → m.shelf ≡ k.shelf → Holds (l ++ stored i name answer ∷ []) m = λ quiet. holds-refused (stored i name answer) h quiet same in
-          scanned_each Puts (store_tests k.shelf name (k.sections i))
-          (no_5, ((λ bad answered. leave (rw answered)), ((λ full answered. leave (rw answered)), (no_26 i, tt))))
+      holds_step : Steps (first_of (step_tests k.position numbers))
+      holds_step =
+          scanned_each Steps (step_tests k.position numbers) (no_26, ((λ short answered left. holds-refused step h (rw answered) left same), tt))
           (λ passed answered left.
-          rw answered
-          (holds-stored
-          (rw left
-          (store_leaves k.shelf name (k.sections i) h.shelf (not-false (is_name name) passed.1.0) passed.1.1.0
-          (not-false (is_position (k.sections i)) passed.1.1.1.0)))))
+          let history = (after l).own in
+          let section : section_at k.position ≡ leads_to fresh history = rw h.position (again history) in
+          let counted : leaves_all answer ≡ false = rw (answered, section) (step_counted (leads_to fresh history) entry (sound history).well) in
+          holds_on step h same (rw counted) (λ name. refl) (rw (counted, leads_last fresh history entry) (rw section at left))
+          (counted_other answer 5 counted refl, counted_other answer 26 counted refl))
 
-  -- ---- a fetch
+    -- ---- a store
 
-  module _ (i : ℕ) (name buffer : List ℕ) (answer : ℕ) (out : List ℕ) (goes : m.sections i ≡ cond (eqb answer 0) (take 281 out) (k.sections i)) where
-    -- what it comes to
-    data Fetched : Type 0 where
-      refused : is_quiet answer ≡ true → m.sections i ≡ k.sections i → Fetched
-      given : answer ≡ 0 → m.sections i ≡ placed ((after l).under name) → LastStored name l (m.sections i) → Fetched
+    module _ (name : List ℕ) (same : m.position ≡ k.position) where
+      abbrev longer : List Call
+      longer = l ++ stored name 0 ∷ []
 
-    abbrev Gives : Verdict → Type 0
-    Gives v = answer ≡ refusal_in v → out ≡ if_allowed v buffer (fetched_from k.shelf name buffer) → Fetched
+      stored_now : is_name name ≡ true → OnShelf longer name
+      stored_now is = record {
+        named = is;
+        last = rw (with_last_lem no_history l (stored name 0), bytes_same name) (record { before = l; since = []; is = refl; last = refl; then = refl });
+      }
 
-    fetched_as : Gives (first_of (fetch_tests k.shelf name buffer))
-    fetched_as =
-        scanned_each Gives (fetch_tests k.shelf name buffer) (
-          no_5,
-          ((λ bad answered left. leave (rw answered)), ((λ unknown answered left. leave (rw answered)), ((λ short answered left. leave (rw answered)), tt))),
-        )
-        (λ passed answered left.
-        let there = position_in (drop (293 * place_named k.shelf name) k.shelf) in
-        let (is, last) : OnShelf l name (some there) = rw passed.1.1.0 at (h.under name (not-false (is_name name) passed.1.0)) in
-        let now : m.sections i ≡ there = rw answered at goes ∙ ap (take 281) left ∙ take_at there (drop (0 + length there) buffer) 281 (ap length is ∙ long ((after l).under name)) in
-        given answered (now ∙ is) (rw now last))
-      where
-        leave : is_quiet answer ≡ true → Fetched
-        leave quiet =
-            let (left, (Some-number, rest)) = each_holds (leaves_all answer ∷ not (eqb answer 0) ∷ not (eqb answer 5) ∷ not (eqb answer 26) ∷ []) quiet in
-            refused quiet (rw (not-true (eqb answer 0) Some-number) at goes)
+      stored_still : is_name name ≡ true → (other : List ℕ) → OnShelf l other → OnShelf longer other
+      stored_still is other on = by (same_bytes other name) refl
+        where
+          by : (b : Bool) → same_bytes other name ≡ b → OnShelf longer other
+          by true e = rw (same_bytes_lem other name e) (stored_now is)
+          by false e = record { named = on.named; last = rw (with_last_lem no_history l (stored name 0), e) (later_call (stored name 0) (rw e) on.last) }
 
-    holds-fetch : OthersStay i k m → m.shelf ≡ k.shelf → Fetched → Holds (l ++ fetched i name buffer answer out ∷ []) m
-    holds-fetch others same (refused quiet stays) = holds-refused (fetched i name buffer answer out) h quiet (all_stay k m i others stays) same
-    holds-fetch others same (given accepted now last) =
-        rw accepted (holds_on (fetched i name buffer 0 out) h same refl (λ other. refl) (section_moved m i ((after l).under name) h others now) (refl, refl))
+      stored-shelf : is_name name ≡ true → eqb (place_named k.shelf name) 16 ≡ false → stored_in k.shelf name k.position ≡ laid_out (keeps (after longer).under) 16 (added name h.names)
+      stored-shelf is room =
+          let now = with_call (stored name 0) (after l) in
+          rw (h.shelf, h.position, with_last_lem no_history l (stored name 0))
+          (rw (bytes_same name) at
+          (store_laid (keeps (after l).under) long_kept name is (keeps now.under) (long (now.under name)) (λ other e. rw e) 16 h.names all_named h.apart
+          (rw h.shelf at room)))
 
-    gives_last : answer ≡ 0 → Fetched → LastStored name l (m.sections i)
-    gives_last accepted (refused quiet stays) = absurd (false≢true (rw accepted at quiet))
-    gives_last accepted (given answered now last) = last
+      holds-stored : is_name name ≡ true → eqb (place_named k.shelf name) 16 ≡ false → m.shelf ≡ stored_in k.shelf name k.position → Holds longer m
+      holds-stored is room left = record {
+        position = rw (with_last_lem no_history l (stored name 0)) (same ∙ h.position);
+        names = added name h.names;
+        apart = distinct_added name h.names h.apart;
+        each = every_added (OnShelf longer) name h.names (stored_now is) (every_map (OnShelf l) (OnShelf longer) (stored_still is) h.names h.each);
+        shelf = left ∙ stored-shelf is room;
+        made = made-last l (stored name 0) (refl, refl) h.made;
+      }
+
+      module _ (answer : ℕ) where
+        abbrev Stored : Verdict → Type 0
+        Stored v = answer ≡ refusal_in v → m.shelf ≡ if_allowed v k.shelf (stored_in k.shelf name k.position) → Holds (l ++ stored name answer ∷ []) m
+
+        holds_store : Stored (first_of (store_tests k.shelf name k.position))
+        holds_store =
+            let leave : is_quiet answer ≡ true → m.shelf ≡ k.shelf → Holds (l ++ stored name answer ∷ []) m = λ quiet. holds-refused (stored name answer) h quiet same in
+            scanned_each Stored (store_tests k.shelf name k.position) (no_5, ((λ bad answered. leave (rw answered)), ((λ full answered. leave (rw answered)), (no_26, tt))))
+            (λ passed answered left. rw answered (holds-stored (not-false (is_name name) passed.1.0) passed.1.1.0 left))
+
+    -- ---- a fetch
+
+    module _ (name : List ℕ) (room answer : ℕ) (behind : drop room m.position ≡ drop room k.position) where
+      -- what it comes to
+      data Fetched : Type 0 where
+        refused : is_quiet answer ≡ true → m.position ≡ k.position → Fetched
+        given : answer ≡ 0 → OnShelf l name → m.position ≡ keeps (after l).under name → Fetched
+
+      abbrev Fetches : Verdict → Type 0
+      Fetches v = answer ≡ refusal_in v → take room m.position ≡ if_allowed v (take room k.position) (fetched_from k.shelf name (take room k.position)) → Fetched
+
+      leave : is_quiet answer ≡ true → take room m.position ≡ take room k.position → Fetched
+      leave quiet front = refused quiet (sym (take-append-drop room m.position) ∙ ap₂ ◌++◌ front behind ∙ take-append-drop room k.position)
+
+      fetched_as : Fetches (first_of (fetch_tests k.shelf name (take room k.position)))
+      fetched_as =
+          scanned_each Fetches (fetch_tests k.shelf name (take room k.position))
+          (no_5, ((λ bad answered. leave (rw answered)), ((λ unknown answered. leave (rw answered)), ((λ short answered. leave (rw answered)), tt))))
+          (λ passed answered left.
+          let there = rw h.shelf at passed.1.1.0 in
+          let (on, gives) = fetch_laid (keeps (after l).under) long_kept name (not-false (is_name name) passed.1.0) (OnShelf l) 16 h.names all_named h.each there in
+          given answered on
+          (put_whole room m.position k.position (keeps (after l).under name) (ap length h.position ∙ long (after l).own) (long_kept name)
+          (ltb-false (length (take room k.position)) 281 passed.1.1.1.0) (rw (h.shelf, gives) at left) behind))
+
+      holds-fetch : m.shelf ≡ k.shelf → Fetched → Holds (l ++ fetched name room answer ∷ []) m
+      holds-fetch same (refused quiet position) = holds-refused (fetched name room answer) h quiet position same
+      holds-fetch same (given accepted on position) = rw accepted (holds_on (fetched name room 0) h same refl (λ other. refl) position (refl, refl))
+
+      gives_last : answer ≡ 0 → Fetched → LastStored name l m.position
+      gives_last accepted (refused quiet position) = absurd (false≢true (rw accepted at quiet))
+      gives_last accepted (given answered on position) = rw position on.last
 
 -- ---- every list
 
 holds_next : {l : List Call} {k m : Kept} (c : Call) → Holds l k → CallBy k c m → Holds (l ++ c ∷ []) m
-holds_next {m = m} (stepped i entry numbers answer out) h (did, others, shelf) = holds_step h m i entry numbers answer out others shelf did.answered did.left
-holds_next {m = m} (stored i name answer) h (did, sections) = holds_store h m i name sections answer did.answered did.left
-holds_next {m = m} (fetched i name buffer answer out) h (did, goes, others, shelf) =
-    holds-fetch h m i name buffer answer out goes others shelf (fetched_as h m i name buffer answer out goes did.answered did.left)
+holds_next {m = m} (stepped entry numbers answer out) h (did, shelf) = holds_step h m entry numbers answer out shelf did.answered did.left
+holds_next {m = m} (stored name answer) h (did, position) = holds_store h m name position answer did.answered did.left
+holds_next {m = m} (fetched name room answer) h (did, behind, shelf) =
+    holds-fetch h m name room answer behind shelf (fetched_as h m name room answer behind did.answered did.left)
 
 holds_from : (before : List Call) {l : List Call} {k m : Kept} → Holds before k → Calls k l m → Holds (before ++ l) m
 holds_from before h stop = rw (append-nil before) h
@@ -308,20 +313,20 @@ holds : {l : List Call} {k : Kept} → Calls start l k → Holds l k
 holds calls = holds_from [] holds-start calls
 
 -- an accepted fetch that is the last of a list, behind the calls done and those to come
-fetch_gives : (done before : List Call) (i : ℕ) (name buffer out : List ℕ) {k m : Kept} → Holds done k → Calls k (before ++ fetched i name buffer 0 out ∷ []) m
-    → LastStored name (done ++ before) (m.sections i)
-fetch_gives done [] i name buffer out {m = m} h (next (did, goes, others, shelf) stop) =
-    rw (append-nil done) (gives_last h m i name buffer 0 out goes refl (fetched_as h m i name buffer 0 out goes did.answered did.left))
-fetch_gives done (c ∷ before) i name buffer out h (next b calls) =
-    rw (append_assoc done (c ∷ []) before) at (fetch_gives (done ++ c ∷ []) before i name buffer out (holds_next c h b) calls)
+fetch_gives : (done before : List Call) (name : List ℕ) (room : ℕ) {k m : Kept} → Holds done k → Calls k (before ++ fetched name room 0 ∷ []) m
+    → LastStored name (done ++ before) m.position
+fetch_gives done [] name room {m = m} h (next (did, behind, shelf) stop) =
+    rw (append-nil done) (gives_last h m name room 0 behind refl (fetched_as h m name room 0 behind did.answered did.left))
+fetch_gives done (c ∷ before) name room h (next b calls) =
+    rw (append_assoc done (c ∷ []) before) at (fetch_gives (done ++ c ∷ []) before name room (holds_next c h b) calls)
 
 -- ---- the theorem
 
 pub calls_hold : {l : List Call} {k : Kept} (calls : Calls start l k) → CallsHold calls
 calls_hold {l} calls = record {
-  section = (holds calls).sections;
-  run = λ i. history_run fresh (history_of l i);
-  demand3 = λ i. demand3 (history_run fresh (history_of l i));
-  fetch = λ before i name buffer out is. fetch_gives [] before i name buffer out holds-start (rw is at calls);
+  section = (holds calls).position;
+  run = history_run fresh (history_of l);
+  demand3 = demand3 (history_run fresh (history_of l));
+  fetch = λ before name room is. fetch_gives [] before name room holds-start (rw is at calls);
   made = (holds calls).made;
 }

@@ -9,7 +9,7 @@ use Rattle.working.proofs.laws.Tests.{both, clash}
 use Rattle.working.proofs.theorems.Demand3.{demand3}
 use Rattle.working.specs.Acts as acts
 use Rattle.working.specs.Acts.{Act}
-use Rattle.working.specs.Document01.{decode01, is_kind_above_8, on_decoded_by, plan_of_01, step_of_01}
+use Rattle.working.specs.Document01.{decode01, is_kind_nine, on_decoded_by, plan_of_01, step_of_01}
 use Rattle.working.specs.Entries.{entry_in, judge, length_of, map_in, read_as, read_at}
 use Rattle.working.specs.Events.{At, Bad, Begin, Decoded, Event, Meet, Resume, Says, decode, decoded_as, event_of, station_of, view_of}
 use Rattle.working.specs.Runs.{Done, Run, accepts_by}
@@ -27,8 +27,8 @@ use Rattle.working.specs.declared.Table.TheVariants.{SingleLine}
 use Rattle.working.specs.declared.Vehicle.{Vehicle}
 use Rattle.working.specs.declared.Verdict.TheVariants.{Allowed, Refused}
 use Rattle.working.specs.declared.Verdict.{Verdict}
-use borrow.Author.Tests.{eqb-true, le-ltb}
-use lib.Dec.{eqb, ltb}
+use borrow.Author.Tests.{le-ltb}
+use lib.Dec.{eqb}
 use mathlib.Core.Bool.{Bool, ◌&&◌, cond, false, false≢true, true}
 use mathlib.Core.List.{List, [], ◌∷◌}
 use mathlib.Core.Option.{Option, none, some}
@@ -36,7 +36,7 @@ use mathlib.Core.Path.{◌∙◌, ◌≡◌, ap, refl, sym}
 
 -- ---- an entry of kind 9
 
-abbrev pub is_endorsed : Act → Bool
+abbrev is_endorsed : Act → Bool
 is_endorsed (acts.Open view class asked) = false
 is_endorsed (acts.Through view) = false
 is_endorsed (acts.Return asked granted) = false
@@ -79,32 +79,25 @@ nine e =
     by false false false false false false false true h = refl
     by false false false false false false false false h = absurd (false≢true h)
 
-said_nine : (bytes : List ℕ) → says_last (decode bytes) ≡ true → is_kind_above_8 bytes ≡ true
+said_nine : (bytes : List ℕ) → says_last (decode bytes) ≡ true → is_kind_nine bytes ≡ true
 unfolding decode
 said_nine bytes = by_found (found SingleLine bytes 0)
   where
-    by_verdict : (v : Verdict) → says_last (decoded_as (read_as v (entry_in bytes) (0 + length_of (map_in bytes)))) ≡ true → ltb 8 (entry_in bytes).kind ≡ true
+    by_verdict : (v : Verdict) → says_last (decoded_as (read_as v (entry_in bytes) (0 + length_of (map_in bytes)))) ≡ true → eqb (entry_in bytes).kind 9 ≡ true
     by_verdict (Refused why) h = absurd (false≢true h)
-    by_verdict Allowed h = rw (eqb-true (entry_in bytes).kind 9 (nine (entry_in bytes) h))
+    by_verdict Allowed h = nine (entry_in bytes) h
 
-    by_found : Found SingleLine bytes 0 → says_last (decoded_as (read_at SingleLine bytes 0)) ≡ true → is_kind_above_8 bytes ≡ true
+    by_found : Found SingleLine bytes 0 → says_last (decoded_as (read_at SingleLine bytes 0)) ≡ true → is_kind_nine bytes ≡ true
     by_found (the_end r) h = absurd (false≢true (rw r at h))
     by_found (cut r) h = absurd (false≢true (rw r at h))
     by_found (whole fits r) h = rw (le-ltb _ _ fits, by_verdict (judge SingleLine (entry_in bytes)) (rw r at h))
 
-pub not_endorsed : (bytes : List ℕ) → is_kind_above_8 bytes ≡ false → says_last (decode bytes) ≡ false
-not_endorsed bytes other = by (says_last (decode bytes)) refl
-  where
-    by : (b : Bool) → says_last (decode bytes) ≡ b → b ≡ false
-    by true says = absurd (clash (said_nine bytes says) other)
-    by false says = refl
-
 -- ---- what document 01's step makes of it
 
 -- bytes that document 01's step accepts are no entry of kind 9
-pub no_kind_nine : (s : Section) (bytes : List ℕ) → is_accepted (step_of_01 s bytes).answer ≡ true → is_kind_above_8 bytes ≡ false
+pub no_kind_nine : (s : Section) (bytes : List ℕ) → is_accepted (step_of_01 s bytes).answer ≡ true → is_kind_nine bytes ≡ false
 unfolding decode01 step_of_01
-no_kind_nine s bytes = by (well_made s) (is_kind_above_8 bytes)
+no_kind_nine s bytes = by (well_made s) (is_kind_nine bytes)
   where
     by : (made ninth : Bool) → is_accepted (if_made made s (on_decoded_by plan_of_01 s (cond ninth (Bad UnknownKind) (decode bytes)))).answer ≡ true → ninth ≡ false
     by true true accepted = absurd (false≢true accepted)

@@ -7,7 +7,7 @@ use Rattle.working.proofs.invariant.Made.{length-pad_to, length_vehicles}
 use Rattle.working.proofs.laws.Clauses.{section-made}
 use Rattle.working.proofs.laws.OwnPlaces.{own_vehicles}
 use Rattle.working.proofs.laws.Tests.{both}
-use Rattle.working.specs.Positions.{PositionReadThenWritten, PositionWrittenThenRead, SpeedsTold, StepWritten, byte_at, counts_bytes, counts_in, desk_bytes, desk_in}
+use Rattle.working.specs.Positions.{ReadThenWritten, SpeedsTold, StepWritten, WrittenThenRead, byte_at, counts_bytes, counts_in, desk_bytes, desk_in}
 use Rattle.working.specs.Positions.{interval_of, is_figures, is_position, minute_of, movement_bytes, movement_of, places_bytes, position_of, running_of, same_bytes}
 use Rattle.working.specs.Positions.{section_at, speed_number, vehicle_bytes, vehicle_in, vehicles_in}
 use Rattle.working.specs.Sections.{fresh, vehicles_of, with_vehicles}
@@ -177,13 +177,13 @@ places-read bytes = length-pad_to 24 (vehicles_in 24 bytes)
 fits_read : (bytes : List ℕ) → length (vehicles_of (section_at bytes)) ≤ 24
 fits_read bytes = omega (arith, places-read bytes, length-take (section_at bytes).len (section_at bytes).vehicles)
 
-pub position_read_then_written : PositionReadThenWritten
-position_read_then_written bytes h =
+pub read_then_written : ReadThenWritten
+read_then_written bytes h =
     let w = position_is bytes h in
     (ap length (sym w.again) ∙ length_position (section_at bytes) (fits_read bytes), w.again)
 
-pub position_written_then_read : PositionWrittenThenRead
-position_written_then_read s long well = (position_of_lem s long well, section_again s long well)
+pub written_then_read : WrittenThenRead
+written_then_read s long well = (position_of_lem s long well, section_again s long well)
 
 pub step_written : StepWritten
 step_written s long well entry numbers room =

@@ -4,7 +4,7 @@
 use Rattle.shelf.proofs.Verdicts.{at_place, fails, holds, long-shelf, short_name}
 use Rattle.shelf.proofs.shelves.store.Statement.{statement}
 use Rattle.shelf.proofs.shelves.store.Tie as tie
-use Rattle.working.proofs.theorems.Positions.{position_read_then_written}
+use Rattle.working.proofs.theorems.Positions.{read_then_written}
 use borrow.Author.Rules.{rules}
 use borrow.Author.Tests.{eq-eqb, ne_eqb}
 use mathlib.Core.Path.{refl}
@@ -68,7 +68,7 @@ put-place-requires c κs =
     let room = position.before.before in
     let shelf = room.before.before.before.before.before.before.before in
     let long = long-shelf _ (holds shelf.before.is-shelf.ensures shelf.if1.false) in
-    let full = (position_read_then_written _ (holds position.before.is-position.ensures position.if4.false)).0 in
+    let full = (read_then_written _ (holds position.before.is-position.ensures position.if4.false)).0 in
     (long, (omega arith, (search rules, full)))
 
 returns-5 : tie.Need-returns-5

@@ -6,7 +6,7 @@ use Rattle.step.proofs.Stored.{whole_copied}
 use Rattle.step.proofs.positions.step_position.Statement.{statement}
 use Rattle.step.proofs.positions.step_position.Tie as tie
 use Rattle.words.specs.Words.{section_in}
-use Rattle.working.proofs.theorems.Positions.{position_is, position_read_then_written}
+use Rattle.working.proofs.theorems.Positions.{position_is, read_then_written}
 use Rattle.working.specs.Positions.{answer_in, is_position, position_of, refusal_of, section_at}
 use Rattle.working.specs.Steps.{step_of}
 use Rattle.working.specs.declared.Stepped.{Stepped}
@@ -36,7 +36,7 @@ module _ (c : tie.Else2) where
   said = read.read.ensures.says told
 
   long : length position ≡ 281
-  long = (position_read_then_written position is).0
+  long = (read_then_written position is).0
 
 returns : tie.Need-returns
 returns c =

@@ -7,7 +7,7 @@ use figures::{Head, LONGEST_HEAD, number_at};
 use libc::STDIN_FILENO;
 
 // What was read: the case, 0 where there is no whole one, and how many bytes lie in the room.
-#[derive(Drop)]
+#[derive(Clone, Copy, Drop)]
 pub(crate) struct Case {
     pub kind: u8,
     pub count: usize,

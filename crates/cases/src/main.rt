@@ -1,5 +1,7 @@
 // Runs the stored cases on standard input and writes what came of each: both forms of the step on any section, the reader at any offset, and the writer.
 // docs/CASES.md has the two formats. The second program wrote the cases, and `stdout` is what it says must come of them.
+#![tactic(auto)]
+
 ghost use Rattle.std.specs.Prelude.{◌≤◌, length};
 
 use figures::{Head, LONGEST_HEAD, entry_in, number_at, section_in};

@@ -6,7 +6,7 @@ use entry::reader::Reader;
 use working::{Read, Table};
 
 // What readers say of a log: what one made over it reads first, what one at an offset reads there, and where that one stands once it is moved on.
-#[derive(Drop)]
+#[derive(Clone, Copy, Drop)]
 pub(crate) struct Seen {
     pub first: Read,
     pub here: Read,

@@ -1,5 +1,7 @@
 // The crate to believe for a double line section: its types, the rules of document 02, T-05, as definitions (specs/), and the theorems about them (proofs/).
 // Each direction has a line of its own, every train leaves on T/C 602, and nothing is asked for or granted. Entries, answers, counts and intervals are `working`'s.
+#![tactic(auto)]
+
 ghost use Rattle.double.specs.Sections.{fresh, fresh_side};
 ghost use Rattle.std.specs.Prelude.{◌≡◌};
 
@@ -7,7 +9,7 @@ use working::{Answer, Counts, Interval};
 
 // A station's figures and the line that leaves it: the minute of its last accepted entry, its last form number, the minute of its last departure since BEGIN, and the
 // form numbers of its trains still on the line, as sent, in the first `len` of twelve places.
-#[derive(Drop)]
+#[derive(Clone, Copy, Drop)]
 pub struct Side {
     pub clock: u16,
     pub last: u16,
@@ -35,7 +37,7 @@ impl Side {
 }
 
 // The section: in force or not, entries refused, and the two stations' sides.
-#[derive(Drop)]
+#[derive(Clone, Copy, Drop)]
 pub struct Section {
     pub force: bool,
     pub refused: Counts,
@@ -58,7 +60,7 @@ impl Section {
 }
 
 // An answer, and the section after it.
-#[derive(Drop)]
+#[derive(Clone, Copy, Drop)]
 pub struct Stepped {
     pub answer: Answer,
     pub section: Section,

@@ -1,5 +1,7 @@
 // Runs the stored cases of a double line on standard input and writes what came of each: both forms of the step on any section, and a run of one entry.
 // docs/CASES.md has the two formats. The second program wrote the cases, and `stdout` is what it says must come of them.
+#![tactic(auto)]
+
 use double::Section;
 use figures::{DOUBLE_LENGTH, LONGEST_HEAD, double_in, number_at};
 use libc::STDIN_FILENO;

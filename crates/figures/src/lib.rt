@@ -1,4 +1,6 @@
 // Sections and entries of the stored cases, read from their figures (docs/CASES.md), well made or not; and figures as the programs that run the cases write them.
+#![tactic(auto)]
+
 mod doubles;
 mod heads;
 mod section_written;

@@ -1,9 +1,11 @@
 // What a read of standard input comes to, and what follows it: what the listers decide where they read a log. They make the reads themselves.
+#![tactic(auto)]
+
 ghost use Rattle.input.specs.Reading.{behind_read, came_by};
 ghost use Rattle.std.specs.Prelude.{◌≡◌};
 
 // What a read came to: so many bytes, none since a signal came first, or an error.
-#[derive(Drop)]
+#[derive(Clone, Copy, Drop)]
 pub enum Came {
     Bytes(usize),
     Interrupted,
@@ -11,7 +13,7 @@ pub enum Came {
 }
 
 // What follows a read: it goes on, so many bytes further and with so many interrupted reads still allowed; the input has ended; or it cannot be read.
-#[derive(Drop)]
+#[derive(Clone, Copy, Drop)]
 pub enum Reading {
     On(usize, usize),
     Ended,
@@ -19,7 +21,7 @@ pub enum Reading {
 }
 
 // What standard input came to: a log of so many bytes, or an error.
-#[derive(Drop)]
+#[derive(Clone, Copy, Drop)]
 pub enum Input {
     Log(usize),
     Failed,

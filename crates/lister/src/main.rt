@@ -1,5 +1,7 @@
 // Lists a single line's log from standard input on standard output. What the machine fails at is said on standard error: after a failed read nothing is listed,
 // and after a failed write nothing more. A contract cannot say what is read or written, so what is here is thin; scripts/try-lister runs it.
+#![tactic(auto)]
+
 mod reading;
 
 ghost use Rattle.std.specs.Prelude.{◌≤◌, length};

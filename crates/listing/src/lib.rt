@@ -1,4 +1,6 @@
 // The lines of a listing as text, put into a lent block: an entry's line, and the last line. specs/LineText.antt says what each line is.
+#![tactic(auto)]
+
 mod line_text;
 mod text;
 

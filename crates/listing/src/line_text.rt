@@ -93,7 +93,7 @@ pub const END_FIGURES: usize = 10;
 pub type EndFigures = [u64; END_FIGURES];
 
 // What the last line says of the section: entries refused for A, for B and of no station, vehicles present, and what each station holds and owes.
-#[derive(Drop)]
+#[derive(Clone, Copy, Drop)]
 pub struct SectionFigures {
     pub refused: Counts,
     pub present: usize,

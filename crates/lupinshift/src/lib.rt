@@ -1,6 +1,8 @@
 // Functions for a host in C or Rust. On a single line's log: its listing, whole or in blocks, its last line alone, as text and as figures, the answer to its last entry, and
 // how many of its entries are taken; where such a call is refused the answer is 0. On a single line's section as a position: a step, a shelf of named positions, and entries
 // as fields; there the answer is 0 or the number of the refusal. Slices of bytes and numbers only; host/lupinshift.h declares them. No refused call alters a lent place.
+#![tactic(auto)]
+
 ghost use Rattle.lupinshift.specs.Answers.{Ends, Figures, Lists, last_answer_of, last_of};
 ghost use Rattle.lupinshift.specs.State.{Begins, FillsOn};
 ghost use Rattle.step.specs.Listings.{listing_room};

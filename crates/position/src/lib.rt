@@ -1,4 +1,6 @@
 // A section as a position, 281 bytes, and read off them: T-06, specs/Positions.antt of `working`. It is written from lent words, and read into such.
+#![tactic(auto)]
+
 mod desks;
 mod numbers;
 mod sections;

@@ -1,5 +1,7 @@
 // The rules for a station's act, decided from its own desk and the vehicle nearest it: why it is refused, what its desk has asked for, holds, owes and keeps
 // waiting after it, and the order that a departing driver gets. Each function is equal to a definition of `working`.
+#![tactic(auto)]
+
 mod clears;
 mod orders;
 mod reasons;

@@ -1,5 +1,7 @@
 // What is told of a section and of its parts: the stations, a vehicle, and the test that a section is well made.
 // Each function is total, and equal to a definition of `working`, or of specs/ where `working` has none.
+#![tactic(auto)]
+
 mod made;
 mod stations;
 mod vehicles;

@@ -11,14 +11,14 @@ use working::{Desk, Interval, Section, Vehicle};
 const NO_KEY: u32 = 16777216;
 
 // A station's vehicles among those passed: how many, and whether their form numbers are 1 to the desk's last.
-#[derive(Drop)]
+#[derive(Clone, Copy, Drop)]
 pub(crate) struct Tally {
     pub count: u8,
     pub numbered: bool,
 }
 
 // The vehicles passed: whether each is shaped, whether A's all stand nearer A than B's, whether all are B's, and each station's tally.
-#[derive(Drop)]
+#[derive(Clone, Copy, Drop)]
 pub(crate) struct Survey {
     pub shaped: bool,
     pub ordered: bool,

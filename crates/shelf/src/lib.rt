@@ -1,4 +1,6 @@
 // Named positions on a lent shelf, 16 places of 293 bytes: T-06, specs/Shelves.antt of `working`.
+#![tactic(auto)]
+
 mod names;
 mod places;
 mod shelves;

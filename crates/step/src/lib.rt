@@ -1,6 +1,8 @@
 // The step on a section and lent bytes, in both forms, of a single line and of a double line, and on a single line's position; the running of a log, and its
 // listing by either table, in blocks or whole. specs/Listings.antt says what the listing of a log is, and specs/Blocks.antt that the blocks one after another are
 // that listing (proofs/Whole.antt).
+#![tactic(auto)]
+
 mod blocks;
 mod double_memory;
 mod double_running;

@@ -1,6 +1,8 @@
 // Lists the logs on standard input, each packed behind a byte that says its table (2 a double line's, else a single line's) and its length in four bytes, high byte first.
 // They are logs of the second program, and `stdout` is what it listed.
 // This is a test, held to what it writes: a read or a write that fails leaves something out, so the comparison fails. It says no more of an error.
+#![tactic(auto)]
+
 ghost use Rattle.std.specs.Prelude.{◌*◌, ◌+◌, ◌<◌, ◌≤◌, min, length, ◌≡◌};
 ghost use Rattle.working.specs.Entries.{value_of};
 

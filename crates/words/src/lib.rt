@@ -1,5 +1,7 @@
 // A section in lent words, where it can be altered without being copied. specs/Words.antt has the table, and says what section they stand for.
 // Each function is total: whatever the words, what it leaves stands for the section that a definition of `working` gives.
+#![tactic(auto)]
+
 mod desks;
 mod kept;
 mod ring;

@@ -11,7 +11,7 @@ use native.Mathlib.Omega.{arith}
 
 pub onward-append : (n : ℕ) (a b : List ℕ) → onward n (a ++ b) ≡ onward (onward n a) b
 onward-append n [] b = refl
-onward-append n (x ∷ a) b = onward-append _ a b
+onward-append n (x ∷ a) b = onward-append (n * 256 + x) a b
 
 pub length_high : (width n : ℕ) → length (high_first width n) ≡ width
 length_high zero n = refl

@@ -4,7 +4,7 @@
 use Prim.Native.Nat.{ℕ}
 use Rattle.double.proofs.Lists.{each_result, own-run, step_did}
 use Rattle.double.proofs.Preserved.{Keeps, fresh-made, step_keeps}
-use Rattle.double.specs.InOrder.{InOrder, departures, receipts}
+use Rattle.double.specs.InOrder.{InOrder, departed_by, departures, receipts, received_by}
 use Rattle.double.specs.Runs.{Run, StepBy}
 use Rattle.double.specs.Sections.{fresh, line_of, side_of}
 use Rattle.double.specs.Steps.{decode}
@@ -32,7 +32,8 @@ made-run h (next {s} {t} {d = d} did run) = made-run (step_kept s t d did h).mad
 order_run : (x : Station) (sent got : List ℕ) {s t : Section} {l : List Done} → well_made s ≡ true → sent ≡ got ++ line_of (side_of s x) → Run s l t
     → departures x sent l ≡ receipts (other_at x) got l ++ line_of (side_of t x)
 order_run x sent got h p stop = p
-order_run x sent got h p (next {s} {t} {d = d} did run) = let k = step_kept s t d did h in order_run x _ _ k.made (k.order x sent got p) run
+order_run x sent got h p (next {s} {t} {d = d} did run) = let k = step_kept s t d did h in
+    order_run x (departed_by x (decode d.bytes) d.answer sent) (received_by (other_at x) (decode d.bytes) d.answer got) k.made (k.order x sent got p) run
 
 -- ---- the theorem
 

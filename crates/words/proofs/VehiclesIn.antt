@@ -172,7 +172,7 @@ module _ (slot : ℕ) (v : Vehicle) (start : ℕ) (l : List Vehicle) (inside : s
       let altered = slot_altered (ring_in w) slot first second (omega (arith, length-drop ring_from w, r.long)) r.vehicle in
       let stands = moves.present altered (vehicles_stand w) in
       let places : pad_to 24 (round (vehicle_at (in_ring (ring_in w) slot first second)) start (min n 24)) ≡ pad_to 24 l =
-      round_pads _ start l (ap (λ k. min k 24) size) (λ i h. stands i (omega arith)) in
+      round_pads (vehicle_at (in_ring (ring_in w) slot first second)) start l (ap (λ k. min k 24) size) (λ i h. stands i (omega arith)) in
       record {
         section = ap section_in shown ∙ rw (r.begins, places, size);
         start = ap start_in shown ∙ r.begins;

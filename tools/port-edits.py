@@ -14,6 +14,9 @@ import os
 import re
 import sys
 
+sys.path.insert(0, os.path.dirname(os.path.realpath(__file__)))
+import respell
+
 
 def edits(tree):
     for f in sorted(glob.glob(os.path.join(tree, 'edits', '*', '*.edit')) + glob.glob(os.path.join(tree, 'weaker', '*', '*.edit')) + glob.glob(os.path.join(tree, 'crates', '*', 'must-fail', '*.edit'))):
@@ -63,32 +66,8 @@ def lay(tree):
             open(beside(path, n), 'w', encoding='utf-8').write(text)
 
 
-def shorter(o, m, text):
-    """The least part of line o, in words, that stands once in the text, with what stands for it in m; or None."""
-    a = 0
-    while a < min(len(o), len(m)) and o[a] == m[a]:
-        a += 1
-    b = 0
-    while b < min(len(o), len(m)) - a and o[len(o) - 1 - b] == m[len(m) - 1 - b]:
-        b += 1
-    while a > 0 and (o[a - 1].isalnum() or o[a - 1] in "_'-"):
-        a -= 1
-    while b > 0 and (o[len(o) - b].isalnum() or o[len(o) - b] in "_'-"):
-        b -= 1
-    ends = [a] + [m_.start() for m_ in reversed(list(re.finditer(r'\S+', o[:a])))]
-    backs = [len(o) - b] + [len(o) - b + m_.end() for m_ in re.finditer(r'\S+', o[len(o) - b:])]
-    best = None
-    for i, s in enumerate(ends):
-        for j, e in enumerate(backs):
-            part = o[s:e]
-            if part.strip() and part == part.strip() and text.count(part) == 1:
-                if best is None or i + j < best[0]:
-                    best = (i + j, part, m[s:len(m) - (len(o) - e)])
-    return best and best[1:]
-
-
 def pairs_between(original, changed, text):
-    """The pairs that make changed of original, each old text once in the text; None where they cannot be had so."""
+    """The pairs, a line each, that make changed of original, and each of whose old texts stands once in the text as the pairs before leave it; None where they cannot be had so."""
     o, m = original.split('\n'), changed.split('\n')
     out = []
     for tag, i, j, k, l in difflib.SequenceMatcher(None, o, m, autojunk=False).get_opcodes():
@@ -98,28 +77,32 @@ def pairs_between(original, changed, text):
         if not olds:
             olds, news = [o[i - 1]], [o[i - 1]] + news
         if len(olds) != len(news):
-            news = [' '.join([news[0] if news else ''] + [x.strip() for x in news[1:]])] + [''] * (len(olds) - 1)
-        for a, b in zip(olds, news):
-            if a == b:
-                continue
-            p = shorter(a, b, text)
-            if p is None and a.strip() and text.count(a.strip()) == 1:
-                p = (a.strip(), b.strip())
-            if p is None:
+            # the line that stands once takes all that is new; what goes besides has to stand once too
+            at = next((n for n, x in enumerate(olds) if text.count(x.strip()) == 1), 0)
+            whole = ' '.join(x.strip() for x in news)
+            news = [whole if n == at else '' for n in range(len(olds))]
+        out += [(a.strip(), b.strip()) for a, b in zip(olds, news) if a.strip() != b.strip() and a.strip()]
+    for which in (original, text):
+        made = which
+        for a, b in out:
+            if made.count(a) != 1:
                 return None
-            out.append(p)
+            made = made.replace(a, b)
+        if which is original and ' '.join(made.split()) != ' '.join(changed.split()):
+            return None
     return out
 
 
 def take(tree, top, folders):
     left = []
+    turned = respell.table(tree)[0]
     for n, f in enumerate(edits(tree)):
         at = os.path.relpath(f, tree)
         if folders and not any(at.startswith(x) for x in folders):
             continue
         crate = crate_of(tree, f)
         head, old_pairs = read(f)
-        lines, said = list(head), []
+        lines, said = [respell.turn_comment(x, turned) for x in head], []
         for file in dict.fromkeys(p[0] for p in old_pairs):
             path = os.path.join(tree, 'crates', crate, file)
             here = os.path.join(top, 'crates', crate, file)
@@ -134,10 +117,10 @@ def take(tree, top, folders):
             pairs = pairs_between(original, changed, text)
             if pairs is None:
                 said.append(f'{file}: by hand')
-                pairs = pairs_between(original, changed, original) or []
+                pairs = pairs_between(original, changed, original) or [(y, z) for x, y, z in old_pairs if x == file]
             lines.append(f'file: {file}')
             for a, b in pairs:
-                lines += [f'old: {a}', f'new: {b}'.rstrip() if not b else f'new: {b}']
+                lines += [f'old: {a}', f'new: {b}' if b else 'new:']
         to = os.path.join(top, at)
         os.makedirs(os.path.dirname(to), exist_ok=True)
         open(to, 'w', encoding='utf-8').write('\n'.join(lines) + '\n')

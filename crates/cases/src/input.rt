@@ -1,10 +1,11 @@
-// A case on standard input: what it is, its head, whose last two bytes are a length, and so many bytes behind them.
-ghost use Rattle.std.specs.Prelude.{◌<◌, ◌≤◌, ◌≡◌};
+// A case of those on standard input, which are read from memory: what it is, its head, whose last two bytes are a length, and so many bytes behind them.
+ghost use Rattle.std.specs.Io.{ReadsAtMost};
+ghost use Rattle.std.specs.Prelude.{◌<◌, ◌≤◌, IfOk, length, ◌≡◌};
 ghost use Rattle.figures.specs.Figures.{longest_head};
-ghost use Rattle.io.specs.Counts.{IsPrefixLen};
 
 use figures::{Head, LONGEST_HEAD, number_at};
-use libc::STDIN_FILENO;
+use std::io;
+use std::io::Read;
 
 // What was read: the case, 0 where there is no whole one, and how many bytes lie in the room.
 #[derive(Clone, Copy, Drop)]
@@ -21,20 +22,20 @@ pub(crate) fn wide(byte: u8) -> u64
 }
 
 // Reads so many bytes to the front of the room, where it has room for them; how many came.
-fn read_bytes(room: &mut [u8], count: usize) -> usize
-    ensures { IsPrefixLen result room.new }
+fn read_bytes(input: &mut &[u8], room: &mut [u8], count: usize) -> io::Result<usize>
+    ensures { ReadsAtMost result room.new }
 {
     if room.len() < count {
-        return 0;
+        return Ok(0);
     }
-    io::read_full(STDIN_FILENO, &mut room[..count])
+    input.read(&mut room[..count])
 }
 
 // What the next case is; 0 at the end of the input.
-fn read_kind() -> u8 {
+fn read_kind(input: &mut &[u8]) -> io::Result<u8> {
     let mut first = [0u8; 1];
-    io::read_full(STDIN_FILENO, &mut first);
-    first[0]
+    input.read(&mut first)?;
+    Ok(first[0])
 }
 
 // The bytes of a case's head; 0 where there is no such case.
@@ -51,21 +52,21 @@ fn head_length(kind: u8) -> usize
 }
 
 // Reads the next case, its head to the front of the head lent and its bytes to the front of the room.
-pub(crate) fn read_case(head: &mut Head, room: &mut [u8]) -> Case
-    ensures { IsPrefixLen result.count room.new }
+pub(crate) fn read_case(input: &mut &[u8], head: &mut Head, room: &mut [u8]) -> io::Result<Case>
+    ensures { IfOk result (λ case. case.count ≤ length room.new) }
 {
-    let kind = read_kind();
+    let kind = read_kind(input)?;
     let size = head_length(kind);
     if size < 2 {
-        return Case { kind: 0, count: 0 };
+        return Ok(Case { kind: 0, count: 0 });
     }
-    if read_bytes(head, size) < size {
-        return Case { kind: 0, count: 0 };
+    if read_bytes(input, head, size)? < size {
+        return Ok(Case { kind: 0, count: 0 });
     }
     let length = number_at(head, size - 2) as usize;
-    let count = read_bytes(room, length);
-    Case {
+    let count = read_bytes(input, room, length)?;
+    Ok(Case {
         kind: if count < length { 0 } else { kind },
         count,
-    }
+    })
 }

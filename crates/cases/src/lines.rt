@@ -6,50 +6,57 @@ use crate::text::{
     front, write, write_bytes, write_digits, write_figure, write_number, write_numbers,
 };
 use figures::{PRESENT, case_bytes};
+use std::io;
+use std::io::Write;
 use step::{Last, Ran};
 use working::{Answer, Entry, Read, Section, Speed, Stepped, Written};
 
 // A word, a number of the case, and the end of the line.
-pub(crate) fn write_length(word: &[u8], length: usize) {
-    write_figure(word, length as u64);
-    write(b"\n");
+pub(crate) fn write_length(out: &mut impl Write, word: &[u8], length: usize) -> io::Result<()> {
+    write_figure(out, word, length as u64)?;
+    write(out, b"\n")
 }
 
 // A word, two numbers of the case, and the end of the line.
-pub(crate) fn write_place(word: &[u8], place: usize, length: usize) {
-    write_figure(word, place as u64);
-    write_length(b"", length);
+pub(crate) fn write_place(
+    out: &mut impl Write,
+    word: &[u8],
+    place: usize,
+    length: usize,
+) -> io::Result<()> {
+    write_figure(out, word, place as u64)?;
+    write_length(out, b"", length)
 }
 
-fn write_refusal(number: u8) {
-    write_figure(b" no", number as u64);
+fn write_refusal(out: &mut impl Write, number: u8) -> io::Result<()> {
+    write_figure(out, b" no", number as u64)
 }
 
 // A speed as the lister prints it.
-fn write_speed(speed: Speed) {
+fn write_speed(out: &mut impl Write, speed: Speed) -> io::Result<()> {
     match speed {
-        Speed::NoSpeed => write(b" -"),
-        Speed::Walking => write(b" W"),
-        Speed::Kmh(kmh) => write_number(kmh as u64),
-        Speed::Booked => write(b" B"),
+        Speed::NoSpeed => write(out, b" -"),
+        Speed::Walking => write(out, b" W"),
+        Speed::Kmh(kmh) => write_number(out, kmh as u64),
+        Speed::Booked => write(out, b" B"),
         Speed::Both {
             straight,
             elsewhere,
         } => {
-            write_number(straight as u64);
-            write(b"/");
-            write_digits(elsewhere as u64);
+            write_number(out, straight as u64)?;
+            write(out, b"/")?;
+            write_digits(out, elsewhere as u64)
         }
     }
 }
 
-fn write_answer(answer: Answer) {
+fn write_answer(out: &mut impl Write, answer: Answer) -> io::Result<()> {
     match answer {
-        Answer::Refused(why) => write_refusal(why.number()),
+        Answer::Refused(why) => write_refusal(out, why.number()),
         Answer::Accepted { form, forms, speed } => {
-            write_figure(b" ok", form as u64);
-            write_number(forms as u64);
-            write_speed(speed);
+            write_figure(out, b" ok", form as u64)?;
+            write_number(out, forms as u64)?;
+            write_speed(out, speed)
         }
     }
 }
@@ -70,88 +77,93 @@ fn entry_fields(e: Entry) -> [u64; 10] {
     ]
 }
 
-fn write_fields(e: Entry) {
-    write(b" entry");
-    write_numbers(&entry_fields(e));
+fn write_fields(out: &mut impl Write, e: Entry) -> io::Result<()> {
+    write(out, b" entry")?;
+    write_numbers(out, &entry_fields(e))
 }
 
-fn write_read(read: Read) {
+fn write_read(out: &mut impl Write, read: Read) -> io::Result<()> {
     match read {
-        Read::End => write(b" end"),
-        Read::Whole(e, _) => write_fields(e),
-        Read::Refused(_, _) => write_refusal(read.number()),
+        Read::End => write(out, b" end"),
+        Read::Whole(e, _) => write_fields(out, e),
+        Read::Refused(_, _) => write_refusal(out, read.number()),
     }
 }
 
 // `at`, an offset, what a reader reads there, `next`, and where it then stands.
-pub(crate) fn write_seen(offset: usize, read: Read, next: usize) {
-    write_figure(b"at", offset as u64);
-    write_read(read);
-    write_length(b" next", next);
+pub(crate) fn write_seen(
+    out: &mut impl Write,
+    offset: usize,
+    read: Read,
+    next: usize,
+) -> io::Result<()> {
+    write_figure(out, b"at", offset as u64)?;
+    write_read(out, read)?;
+    write_length(out, b" next", next)
 }
 
 // A word and an answer.
-pub(crate) fn write_answered(word: &[u8], answer: Answer) {
-    write(word);
-    write_answer(answer);
-    write(b"\n");
+pub(crate) fn write_answered(out: &mut impl Write, word: &[u8], answer: Answer) -> io::Result<()> {
+    write(out, word)?;
+    write_answer(out, answer)?;
+    write(out, b"\n")
 }
 
 // A word, an answer, and the digest of the section after it.
-pub(crate) fn write_stepped(word: &[u8], after: Stepped) {
+pub(crate) fn write_stepped(out: &mut impl Write, word: &[u8], after: Stepped) -> io::Result<()> {
     let s = after.section;
     let answer = after.answer;
-    write(word);
-    write_answer(answer);
-    write_number(digest(&case_bytes(s)));
-    write(b"\n");
+    write(out, word)?;
+    write_answer(out, answer)?;
+    write_number(out, digest(&case_bytes(s)))?;
+    write(out, b"\n")
 }
 
 // The last answer of a run, where it had an entry.
-fn write_last(last: Last) {
+fn write_last(out: &mut impl Write, last: Last) -> io::Result<()> {
     match last {
-        Last::Answered(answer) => write_answer(answer),
-        Last::NoEntry => write(b" none"),
+        Last::Answered(answer) => write_answer(out, answer),
+        Last::NoEntry => write(out, b" none"),
     }
 }
 
 // What a log comes to: its entries, those accepted, the last answer, and the digest of the section after it.
-pub(crate) fn write_ran(ran: Ran) {
+pub(crate) fn write_ran(out: &mut impl Write, ran: Ran) -> io::Result<()> {
     let s = ran.section;
     let last = ran.last;
-    write_figure(b"run", ran.entries as u64);
-    write_number(ran.accepted as u64);
-    write_last(last);
-    write_number(digest(&case_bytes(s)));
-    write(b"\n");
+    write_figure(out, b"run", ran.entries as u64)?;
+    write_number(out, ran.accepted as u64)?;
+    write_last(out, last)?;
+    write_number(out, digest(&case_bytes(s)))?;
+    write(out, b"\n")
 }
 
 // The figures behind the places, and then the bytes that the places in use take.
-fn write_figures(figures: &[u8], used: usize)
+fn write_figures(out: &mut impl Write, figures: &[u8], used: usize) -> io::Result<()>
     requires { 240 ≤ length figures.now }
 {
-    write_bytes(&figures[PRESENT..]);
-    write_bytes(front(figures, used));
+    write_bytes(out, &figures[PRESENT..])?;
+    write_bytes(out, front(figures, used))
 }
 
 // A word and a section's figures, without the unused places behind the last in use.
-pub(crate) fn write_section(word: &[u8], s: Section) {
+pub(crate) fn write_section(out: &mut impl Write, word: &[u8], s: Section) -> io::Result<()> {
     let figures = case_bytes(s);
     let used = places_used(&figures);
-    write(word);
-    write(b" ");
-    write_figures(&figures, used);
-    write(b"\n");
+    write(out, word)?;
+    write(out, b" ")?;
+    write_figures(out, &figures, used)?;
+    write(out, b"\n")
 }
 
 // A word and what the writer answered.
-pub(crate) fn write_written(word: &[u8], written: Written) {
+pub(crate) fn write_written(out: &mut impl Write, word: &[u8], written: Written) -> io::Result<()> {
     let number = written.number();
-    write(word);
+    write(out, word)?;
     if number == 0 {
-        write_figure(b" filled", written.filled_on(0) as u64);
+        write_figure(out, b" filled", written.filled_on(0) as u64)?;
     } else {
-        write_refusal(number);
+        write_refusal(out, number)?;
     }
-    write(b"\n");
+    write(out, b"\n")
 }

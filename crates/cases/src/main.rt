@@ -7,6 +7,8 @@ ghost use Rattle.std.specs.Prelude.{◌≤◌, length};
 use figures::{Head, LONGEST_HEAD, entry_in, number_at, section_in};
 use input::read_case;
 use logs::{run_log, run_offset};
+use std::io;
+use std::io::{BufWriter, Read, Write};
 use steps::run_step;
 use working::Table;
 use written::run_write;
@@ -31,45 +33,48 @@ fn table_of(kind: u8) -> Table {
 }
 
 // Runs a case of which the head and the bytes were read.
-fn run_case(kind: u8, head: &Head, bytes: &mut [u8])
+fn run_case(out: &mut impl Write, kind: u8, head: &Head, bytes: &mut [u8]) -> io::Result<()>
     requires { length bytes.old ≤ 4096 }
 {
     match kind {
-        1 => run_log(bytes),
-        2 => run_step(section_in(head), bytes),
+        1 => run_log(out, bytes),
+        2 => run_step(out, section_in(head), bytes),
         3 | 5 => run_write(
+            out,
             table_of(kind),
             bytes,
             number_at(head, 12) as usize,
             entry_in(head),
         ),
-        _ => run_offset(table_of(kind), number_at(head, 0) as usize, bytes),
+        _ => run_offset(out, table_of(kind), number_at(head, 0) as usize, bytes),
     }
 }
 
 // Runs the next case, whose bytes are read into the room lent; says whether there was a whole one.
-fn run_next(room: &mut [u8]) -> bool
+fn run_next(input: &mut &[u8], out: &mut impl Write, room: &mut [u8]) -> io::Result<bool>
     requires { length room.old ≤ 4096 }
 {
     let mut head = [0u8; LONGEST_HEAD];
-    let case = read_case(&mut head, room);
+    let case = read_case(input, &mut head, room)?;
     let count = case.count;
     if case.kind == 0 {
-        return false;
+        return Ok(false);
     }
-    run_case(case.kind, &head, &mut room[..count]);
-    true
+    run_case(out, case.kind, &head, &mut room[..count])?;
+    Ok(true)
 }
 
 // Runs at most 65,536 cases.
-fn main() {
+fn main(rt: HostRuntime) -> io::Result<()> {
+    let mut stored = Vec::new(rt.alloc());
+    rt.stdin().read_to_end(&mut stored)?;
+    let mut input = stored.as_slice();
+    let mut out = BufWriter::new(rt.alloc(), io::writer(&rt))?;
     let mut room = [0u8; 4096];
-    let mut cases = 0usize;
-    while cases < 65536 {
-        cases = if run_next(&mut room) {
-            cases + 1
-        } else {
-            65536
-        };
+    for _ in 0..65536 {
+        if !run_next(&mut input, &mut out, &mut room)? {
+            break;
+        }
     }
+    out.flush()
 }

@@ -1,38 +1,37 @@
-// Text written to standard output, piece by piece.
+// Text written piece by piece.
 ghost use Rattle.std.specs.Prelude.{take, ◌≡◌};
 
-use crate::input::wide;
-use libc::STDOUT_FILENO;
+use std::io;
+use std::io::Write;
 
 // A word, or the end of a line.
-pub(crate) fn write(word: &[u8]) {
-    io::write_all(STDOUT_FILENO, word);
+pub(crate) fn write(out: &mut impl Write, word: &[u8]) -> io::Result<()> {
+    out.write_all(word)
 }
 
 // A number in decimal digits.
-pub(crate) fn write_digits(n: u64) {
-    io::print_decimal(STDOUT_FILENO, n);
+pub(crate) fn write_digits(out: &mut impl Write, n: u64) -> io::Result<()> {
+    write!(out, "{n}")
 }
 
 // A blank and a number.
-pub(crate) fn write_number(n: u64) {
-    write(b" ");
-    write_digits(n);
+pub(crate) fn write_number(out: &mut impl Write, n: u64) -> io::Result<()> {
+    write(out, b" ")?;
+    write_digits(out, n)
 }
 
 // Numbers one behind the other.
-pub(crate) fn write_numbers(numbers: &[u64]) {
-    let mut i = 0;
-    while i < numbers.len() {
-        write_number(numbers[i]);
-        i += 1;
+pub(crate) fn write_numbers(out: &mut impl Write, numbers: &[u64]) -> io::Result<()> {
+    for number in numbers {
+        write_number(out, *number)?;
     }
+    Ok(())
 }
 
 // A word and a number behind it.
-pub(crate) fn write_figure(word: &[u8], n: u64) {
-    write(word);
-    write_number(n);
+pub(crate) fn write_figure(out: &mut impl Write, word: &[u8], n: u64) -> io::Result<()> {
+    write(out, word)?;
+    write_number(out, n)
 }
 
 // The first so many bytes, or all where there are fewer.
@@ -47,18 +46,17 @@ pub(crate) fn front(bytes: &[u8], count: usize) -> &[u8]
 }
 
 // Bytes in hex, two digits each.
-pub(crate) fn write_bytes(bytes: &[u8]) {
-    let mut i = 0;
-    while i < bytes.len() {
-        io::print_hex(STDOUT_FILENO, wide(bytes[i]), 2);
-        i += 1;
+pub(crate) fn write_bytes(out: &mut impl Write, bytes: &[u8]) -> io::Result<()> {
+    for byte in bytes {
+        write!(out, "{byte:02x}")?;
     }
+    Ok(())
 }
 
 // A word, a blank, bytes in hex, and the end of the line.
-pub(crate) fn write_hex(word: &[u8], bytes: &[u8]) {
-    write(word);
-    write(b" ");
-    write_bytes(bytes);
-    write(b"\n");
+pub(crate) fn write_hex(out: &mut impl Write, word: &[u8], bytes: &[u8]) -> io::Result<()> {
+    write(out, word)?;
+    write(out, b" ")?;
+    write_bytes(out, bytes)?;
+    write(out, b"\n")
 }

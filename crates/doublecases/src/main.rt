@@ -4,8 +4,9 @@
 
 use double::Section;
 use figures::{DOUBLE_LENGTH, LONGEST_HEAD, double_in, number_at};
-use libc::STDIN_FILENO;
 use memory::double_step_via;
+use std::io;
+use std::io::Read;
 use step::{double_run, double_step};
 use stepped::{write_ran, write_stepped};
 
@@ -19,39 +20,44 @@ const HEAD: usize = DOUBLE_LENGTH + 2;
 const LONGEST: usize = 64;
 
 // Both forms of the step on the same section and bytes, and a run of their first entry.
-fn run_case(s: Section, bytes: &[u8]) {
-    write_stepped(double_step(s, bytes));
-    write_stepped(double_step_via(s, bytes));
-    write_ran(double_run(s, bytes, 1));
+fn run_case(out: &impl Print, s: Section, bytes: &[u8]) -> io::Result<()> {
+    write_stepped(out, double_step(s, bytes))?;
+    write_stepped(out, double_step_via(s, bytes))?;
+    write_ran(out, double_run(s, bytes, 1))
 }
 
 // Runs a case whose section was read, with the bytes that fill the room lent; says whether there were so many.
-fn run_bytes(s: Section, room: &mut [u8]) -> bool {
-    if io::read_full(STDIN_FILENO, room) < room.len() {
-        return false;
+fn run_bytes(input: &mut &[u8], out: &impl Print, s: Section, room: &mut [u8]) -> io::Result<bool> {
+    if input.read(room)? < room.len() {
+        return Ok(false);
     }
-    run_case(s, room);
-    true
+    run_case(out, s, room)?;
+    Ok(true)
 }
 
 // Runs the next case; says whether there was a whole one.
-fn run_next() -> bool {
+fn run_next(input: &mut &[u8], out: &impl Print) -> io::Result<bool> {
     let mut head = [0u8; LONGEST_HEAD];
     let mut room = [0u8; LONGEST];
-    if io::read_full(STDIN_FILENO, &mut head[..HEAD]) < HEAD {
-        return false;
+    if input.read(&mut head[..HEAD])? < HEAD {
+        return Ok(false);
     }
     let length = number_at(&head, DOUBLE_LENGTH) as usize;
     if LONGEST < length {
-        return false;
+        return Ok(false);
     }
-    run_bytes(double_in(&head), &mut room[..length])
+    run_bytes(input, out, double_in(&head), &mut room[..length])
 }
 
 // Runs at most 65,536 cases.
-fn main() {
-    let mut cases = 0usize;
-    while cases < 65536 {
-        cases = if run_next() { cases + 1 } else { 65536 };
+fn main(rt: HostRuntime) -> io::Result<()> {
+    let mut stored = Vec::new(rt.alloc());
+    rt.stdin().read_to_end(&mut stored)?;
+    let mut input = stored.as_slice();
+    for _ in 0..65536 {
+        if !run_next(&mut input, &rt)? {
+            break;
+        }
     }
+    Ok(())
 }

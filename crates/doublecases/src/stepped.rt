@@ -3,8 +3,8 @@ ghost use Rattle.std.specs.Prelude.{◌+◌, ◌≤◌};
 
 use double::{Section, Side, Stepped};
 use figures::{DOUBLE_LENGTH, DOUBLE_REFUSED, SIDE_A, SIDE_B, put_bytes};
-use libc::STDOUT_FILENO;
 use position::{counts_bytes, in_two, interval_bytes, one_if};
+use std::io;
 use step::{DoubleRan, Last};
 use working::{Answer, Speed};
 
@@ -75,28 +75,28 @@ fn put_section(room: &mut [u8], s: Section) {
 }
 
 // Writes an answer and the section after it.
-pub(crate) fn write_stepped(after: Stepped) {
+pub(crate) fn write_stepped(out: &impl Print, after: Stepped) -> io::Result<()> {
     let mut room = [0u8; LENGTH];
     let answer = after.answer;
     let s = after.section;
     put_answer(&mut room, answer);
     put_section(&mut room, s);
-    io::write_all(STDOUT_FILENO, &room);
+    out.write_all(&room)
 }
 
 // Writes a section that no answer goes with: zeros stand in the answer's place.
-fn write_unanswered(s: Section) {
+fn write_unanswered(out: &impl Print, s: Section) -> io::Result<()> {
     let mut room = [0u8; LENGTH];
     put_section(&mut room, s);
-    io::write_all(STDOUT_FILENO, &room);
+    out.write_all(&room)
 }
 
 // Writes the last answer of a run, zeros where it had no entry, and the section after it.
-pub(crate) fn write_ran(ran: DoubleRan) {
+pub(crate) fn write_ran(out: &impl Print, ran: DoubleRan) -> io::Result<()> {
     let last = ran.last;
     let section = ran.section;
     match last {
-        Last::Answered(answer) => write_stepped(Stepped { answer, section }),
-        Last::NoEntry => write_unanswered(section),
+        Last::Answered(answer) => write_stepped(out, Stepped { answer, section }),
+        Last::NoEntry => write_unanswered(out, section),
     }
 }

@@ -8,12 +8,13 @@ ghost use Rattle.std.specs.Prelude.{◌≤◌, length};
 ghost use Rattle.listing.specs.LineText.{longest_line};
 
 use input::Input;
-use libc::{STDERR_FILENO, STDOUT_FILENO};
 use reading::read_log;
+use std::env::{Env, FillError};
+use std::io;
 use words::fresh_words;
 
-// Writes the listing of a log, a block at a time; says whether all of it was written.
-fn write_listing(log: &[u8], block: &mut [u8]) -> bool
+// Writes the listing of a log, a block at a time.
+fn write_listing(out: &impl Print, log: &[u8], block: &mut [u8]) -> io::Result<()>
     requires { longest_line ≤ length block.old }
 {
     let mut words = fresh_words();
@@ -21,27 +22,35 @@ fn write_listing(log: &[u8], block: &mut [u8]) -> bool
     while !listed.ended {
         let put = step::double_fill(&mut words, listed, log, block);
         let count = put.behind;
-        if !io::write_all(STDOUT_FILENO, &block[..count]) {
-            return false;
-        }
+        out.write_all(&block[..count])?;
         listed = put.listed;
     }
-    true
+    Ok(())
 }
 
-fn main() {
-    if os::arg_count() > 1 {
-        io::write_all(STDERR_FILENO, b"usage: doublelister <LOG\n");
-        return;
-    }
+// Says what failed, and why, in the C library's words: std puts the error's number behind them.
+fn say(rt: &(impl Eprint + AllocGlobal), what: &str, why: io::Error) -> io::Result<()> {
+    let text = why.to_string(rt.alloc())?;
+    let words = match text.split_once(" (os error ") {
+        Some((words, _)) => words,
+        None => &text,
+    };
+    eprintln!(rt; "doublelister: {what}: {words}")
+}
+
+fn main(rt: HostRuntime) -> io::Result<()> {
+    let Err(FillError::NotPresent) = rt.arg(1, &mut []) else {
+        return eprintln!(rt; "usage: doublelister <LOG");
+    };
     // A byte more than the longest log tells a longer one.
     let mut input = [0u8; 65537];
-    let Input::Log(len) = read_log(&mut input) else {
-        os::fail(b"doublelister: reading standard input");
-        return;
+    let (read, why) = read_log(&mut rt.stdin(), &mut input);
+    let Input::Log(len) = read else {
+        return say(&rt, "reading standard input", why.unwrap());
     };
     let mut block = [0u8; 16384];
-    if !write_listing(&input[..len], &mut block) {
-        os::fail(b"doublelister: writing standard output");
+    if let Err(why) = write_listing(&rt, &input[..len], &mut block) {
+        return say(&rt, "writing standard output", why);
     }
+    Ok(())
 }

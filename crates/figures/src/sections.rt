@@ -3,7 +3,6 @@ ghost use Rattle.std.specs.Prelude.{◌+◌, ◌≤◌, ◌≡◌};
 ghost use Rattle.figures.specs.Figures.{counts_at, desk_at, entry_in, longest_head, places_in, section_in, vehicle_at};
 
 use crate::heads::{Head, number_at};
-use bytes::copy;
 use position::{COUNTS, DESK, PLACE, counts_in, desk_in, vehicle_in};
 use working::{Counts, Desk, Entry, Section, Vehicle};
 
@@ -25,7 +24,7 @@ fn vehicle_at(figures: &Head, at: usize) -> Vehicle
 {
     let all = &figures[..];
     let mut place = [0u8; PLACE];
-    copy(&all[at..at + PLACE], &mut place);
+    place.copy_from_slice(&all[at..at + PLACE]);
     vehicle_in(&place)
 }
 
@@ -49,7 +48,7 @@ fn desk_at(figures: &Head, at: usize) -> Desk
 {
     let all = &figures[..];
     let mut desk = [0u8; DESK];
-    copy(&all[at..at + DESK], &mut desk);
+    desk.copy_from_slice(&all[at..at + DESK]);
     desk_in(&desk)
 }
 
@@ -60,7 +59,7 @@ pub(crate) fn counts_at(figures: &Head, at: usize) -> Counts
 {
     let all = &figures[..];
     let mut counts = [0u8; COUNTS];
-    copy(&all[at..at + COUNTS], &mut counts);
+    counts.copy_from_slice(&all[at..at + COUNTS]);
     counts_in(&counts)
 }
 

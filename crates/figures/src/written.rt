@@ -2,8 +2,6 @@
 ghost use Rattle.figures.specs.Written.{put_at};
 ghost use Rattle.std.specs.Prelude.{◌≡◌};
 
-use bytes::copy;
-
 // Bytes put one behind the other, the first of them at a place; none where there is no room for all.
 pub fn put_bytes(room: &mut [u8], at: usize, bytes: &[u8])
     ensures { room.new ≡ put_at room.old at bytes.now }
@@ -14,5 +12,5 @@ pub fn put_bytes(room: &mut [u8], at: usize, bytes: &[u8])
     if room.len() - at < bytes.len() {
         return;
     }
-    copy(bytes, &mut room[at..]);
+    room[at..at + bytes.len()].copy_from_slice(bytes);
 }

@@ -1,12 +1,13 @@
 // Lists the logs on standard input, each packed behind a byte that says its table (2 a double line's, else a single line's) and its length in four bytes, high byte first.
 // They are logs of the second program, and `stdout` is what it listed.
-// This is a test, held to what it writes: a read or a write that fails leaves something out, so the comparison fails. It says no more of an error.
+// This is a test, held to what it writes. A read or a write that fails ends it.
 #![tactic(auto)]
 
 ghost use Rattle.std.specs.Prelude.{◌*◌, ◌+◌, ◌<◌, ◌≤◌, min, length, ◌≡◌};
 ghost use Rattle.working.specs.Entries.{value_of};
 
-use libc::{STDIN_FILENO, STDOUT_FILENO};
+use std::io;
+use std::io::Read;
 
 // Room for the longest log and a byte more, which tells a longer one.
 const ROOM: usize = 65537;
@@ -37,38 +38,53 @@ fn put_listing(double: bool, log: &[u8], block: &mut [u8]) -> usize
 }
 
 // Writes the listing of a log in one block, which has room for the longest of the logs stored; the listers write in many.
-fn list(double: bool, log: &[u8], block: &mut [u8]) {
+fn list(out: &impl Print, double: bool, log: &[u8], block: &mut [u8]) -> io::Result<()> {
     let count = put_listing(double, log, block);
-    io::write_all(STDOUT_FILENO, &block[..count]);
+    out.write_all(&block[..count])
 }
 
-// Fills the log lent from standard input and lists what was read.
-fn list_read(double: bool, log: &mut [u8], block: &mut [u8]) {
-    let read = io::read_full(STDIN_FILENO, log);
-    list(double, &log[..read], block);
+// Fills the log lent from the input and lists what was read.
+fn list_read(
+    input: &mut &[u8],
+    out: &impl Print,
+    double: bool,
+    log: &mut [u8],
+    block: &mut [u8],
+) -> io::Result<()> {
+    let read = input.read(log)?;
+    list(out, double, &log[..read], block)
 }
 
 // Lists one log, read into the room lent; says whether there was one.
-fn list_next(room: &mut [u8], block: &mut [u8]) -> bool
+fn list_next(
+    input: &mut &[u8],
+    out: &impl Print,
+    room: &mut [u8],
+    block: &mut [u8],
+) -> io::Result<bool>
     requires { 65537 ≤ length room.old }
 {
     let mut first = [0u8; 1];
     let mut head = [0u8; 4];
-    io::read_full(STDIN_FILENO, &mut first);
-    if io::read_full(STDIN_FILENO, &mut head) < 4 {
-        return false;
+    input.read(&mut first)?;
+    if input.read(&mut head)? < 4 {
+        return Ok(false);
     }
     let length = packed_length(head);
-    list_read(first[0] == 2, &mut room[..length], block);
-    true
+    list_read(input, out, first[0] == 2, &mut room[..length], block)?;
+    Ok(true)
 }
 
-fn main() {
+fn main(rt: HostRuntime) -> io::Result<()> {
+    let mut packed = Vec::new(rt.alloc());
+    rt.stdin().read_to_end(&mut packed)?;
+    let mut input = packed.as_slice();
     let mut room = [0u8; 65537];
     let mut block = [0u8; 262144];
-    let mut logs = 0usize;
-    while logs < 4096 {
-        let more = list_next(&mut room, &mut block);
-        logs = if more { logs + 1 } else { 4096 };
+    for _ in 0..4096 {
+        if !list_next(&mut input, &rt, &mut room, &mut block)? {
+            break;
+        }
     }
+    Ok(())
 }

@@ -1,37 +1,18 @@
--- Bytes copied into an array, or put at a place; and two slices compared byte by byte.
+-- Two slices compared byte by byte, and bytes put behind others.
 -- Assumes nothing.
 use Prim.Native.Nat.{◌+◌, ◌<◌, ◌≤◌, suc, zero, ℕ}
 use Rattle.working.proofs.theorems.Positions.{read_then_written, same_bytes_lem}
 use Rattle.working.specs.Entries.{pasted}
 use Rattle.working.specs.Positions.{is_position, same_bytes}
 use lib.Dec.{eqb}
-use lib.ListN.{drop, drop_of_length-le, get_or, length, length-drop, length-replicate, replicate, take}
-use lib.Seq.{drop-append-add, drop-cons, drop-drop, length-take-le, take_all, take-append-add}
+use lib.ListN.{drop, drop_of_length-le, get_or, length, take}
+use lib.Seq.{drop-append-add, drop-cons, take-append-add}
 use mathlib.Core.Bool.{Bool, ◌&&◌, and_assoc, and-true, false, true}
-use mathlib.Core.List.{List, [], ◌++◌, ◌∷◌, append_assoc, append-nil}
+use mathlib.Core.List.{List, [], ◌++◌, ◌∷◌, append_assoc}
 use mathlib.Core.Path.{◌∙◌, ◌≡◌, ap, refl}
 use native.Mathlib.Nat.{add_assoc}
 use native.Mathlib.Numerals.{add-one}
 use native.Mathlib.Omega.{arith}
-
--- ---- bytes copied
-
--- into an array of n zeros, n from a place on, of which a slice has k
-pub part_copied : (bytes : List ℕ) (at n k : ℕ) → at + n ≤ length bytes → k ≡ n
-    → take (length (take k (drop at bytes))) (take k (drop at bytes)) ++ drop (length (take k (drop at bytes))) (replicate n 0) ≡ take n (drop at bytes)
-part_copied bytes at n k fits is =
-    let part : List ℕ = take n (drop at bytes) in
-    let long : length part ≡ n = length-take-le n (drop at bytes) (omega (arith, length-drop at bytes)) in
-    let none : drop n (replicate {A = ℕ} n 0) ≡ [] = drop_of_length-le (replicate n 0) {i = n} (omega (arith, length-replicate {A = ℕ} n 0)) in
-    rw (is, long, none) (append-nil (take n part) ∙ take_all n part (omega arith))
-
--- at the front of the tail of a room, of which k is the length
-pub in_tail : (room bytes : List ℕ) (at k : ℕ) → at + length bytes ≤ length room → k ≡ length (drop at room)
-    → take at room ++ ((take (length bytes) bytes ++ drop (length bytes) (take k (drop at room))) ++ drop k (drop at room)) ≡ pasted room at bytes
-in_tail room bytes at k fits tail =
-    let all : take (length bytes) bytes ≡ bytes = take_all (length bytes) bytes (omega arith) in
-    let whole : length (drop at room) ≤ k = omega arith in
-    simp (all, take_all k (drop at room) whole, drop_of_length-le (drop at room) whole, append-nil, drop-drop)
 
 -- ---- the same bytes
 

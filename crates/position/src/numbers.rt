@@ -4,8 +4,6 @@ ghost use Rattle.working.specs.Entries.{pasted};
 ghost use Rattle.working.specs.Positions.{in_four, in_two, same_bytes};
 ghost use Rattle.working.specs.WellMade.{one_if};
 
-use bytes::copy;
-
 // 1 where it holds, else 0.
 pub fn one_if(holds: bool) -> u8
     ensures { result ≡ one_if holds }
@@ -51,7 +49,7 @@ pub(crate) fn put_bytes(room: &mut [u8], at: usize, bytes: &[u8])
     requires { at + length bytes.now ≤ length room.old }
     ensures { room.new ≡ pasted room.old at bytes.now }
 {
-    copy(bytes, &mut room[at..]);
+    room[at..at + bytes.len()].copy_from_slice(bytes);
 }
 
 // Whether two slices hold the same bytes.

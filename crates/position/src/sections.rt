@@ -8,7 +8,6 @@ ghost use Rattle.working.specs.Sections.{pad_to, vehicles_of};
 use crate::desks::{COUNTS, DESK, counts_bytes, counts_in, desk_bytes, desk_in};
 use crate::numbers::{one_if, put_bytes, same_in_parts};
 use crate::vehicles::{PLACE, vehicle_bytes, vehicle_in};
-use bytes::copy;
 use section::well_made;
 use words::{WORDS, Words, desk, in_force, present_in, refused, vehicle, words_of};
 use working::{Counts, Desk, Section, Station, Vehicle};
@@ -47,7 +46,7 @@ fn vehicle_at(p: &[u8], i: usize) -> Vehicle
     ensures { result ≡ vehicle_in (take 10 (drop (10 * i) p.now)) }
 {
     let mut place = [0u8; PLACE];
-    copy(&p[PLACE * i..PLACE * i + PLACE], &mut place);
+    place.copy_from_slice(&p[PLACE * i..PLACE * i + PLACE]);
     vehicle_in(&place)
 }
 
@@ -70,7 +69,7 @@ fn refused_at(p: &[u8]) -> Counts
     ensures { result ≡ counts_in (take 12 (drop 241 p.now)) }
 {
     let mut counts = [0u8; COUNTS];
-    copy(&p[REFUSED..DESK_A], &mut counts);
+    counts.copy_from_slice(&p[REFUSED..DESK_A]);
     counts_in(&counts)
 }
 
@@ -80,7 +79,7 @@ fn desk_at(p: &[u8], at: usize) -> Desk
     ensures { result ≡ desk_in (take 14 (drop at p.now)) }
 {
     let mut desk = [0u8; DESK];
-    copy(&p[at..at + DESK], &mut desk);
+    desk.copy_from_slice(&p[at..at + DESK]);
     desk_in(&desk)
 }
 

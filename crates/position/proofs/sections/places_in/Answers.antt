@@ -1,0 +1,23 @@
+-- The place of one more vehicle is put.
+-- Assumes nothing.
+use Rattle.std.proofs.Common.{arith, ap, refl, replicate, rules, ◌*◌, ◌∙◌}
+use Rattle.position.proofs.Places.{put_next}
+use Rattle.words.specs.Words.{section_in}
+use Rattle.working.specs.Entries.{pasted}
+use Rattle.working.specs.Positions.{places_bytes, vehicle_bytes}
+use Rattle.working.specs.Sections.{vehicles_of}
+use Rattle.position.proofs.sections.places_in.Goals as goal
+use mathlib.Core.Path.{ap₂}
+
+pub loop-i-init : goal.loop-i-init
+unfolding places_bytes
+loop-i-init c = (refl, record { within = omega arith; so_far = refl })
+
+pub loop-i-preserved : goal.loop-i-preserved
+loop-i-preserved c =
+    let vehicles = vehicles_of (section_in c.args.words.now) in
+    let i = c.loop-i.i in
+    let bytes = c.vehicle_bytes.ensures ∙ ap vehicle_bytes c.vehicle.ensures in
+    let next = c.put_bytes.ensures ∙ ap₂ (λ t v. pasted t (10 * i) v) c.loop-i.invariant.1.so_far bytes
+    ∙ put_next vehicles i (replicate 41 0) (omega arith) (omega arith) in
+    (search rules, record { within = omega arith; so_far = next })

@@ -31,6 +31,7 @@ pub enum Input {
 pub const PATIENCE: usize = 65536;
 
 // What C's answer says of a read: `count` bytes unless it is negative, and then errno tells whether a signal came first.
+#[tactic(auto, unfolding(crate::specs::Reading::came_by))]
 pub fn answered(got: isize, interrupted: bool, count: usize) -> Came
     ensures { result ≡ came_by got interrupted count }
 {
@@ -44,6 +45,7 @@ pub fn answered(got: isize, interrupted: bool, count: usize) -> Came
 }
 
 // What follows a read: no bytes are the end of the input, and an interrupted read is tried again while that is allowed.
+#[tactic(auto, unfolding(crate::specs::Reading::behind_read))]
 pub fn behind(patience: usize, one: Came) -> Reading
     ensures { result ≡ behind_read patience one }
 {

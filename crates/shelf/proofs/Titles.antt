@@ -2,10 +2,10 @@
 -- Assumes nothing.
 use Prim.Native.Nat.{◌+◌, ◌-◌, ◌<◌, ◌≤◌, suc, zero, ℕ}
 use Rattle.working.specs.Sections.{pad_with}
-use Rattle.working.specs.Shelves.{is_letter, is_zero, letters_in, title_of}
+use Rattle.working.specs.Shelves.{is_letter, is_zero, letters_in}
 use lib.Dec.{eqb}
 use lib.ListN.{drop, drop_of_length-le, get_or, length, length-drop, replicate, take}
-use lib.Seq.{drop-cons, take_all, take-length}
+use lib.Seq.{drop-cons, take_all}
 use mathlib.Core.Bool.{Bool, ◌&&◌, and-true, false, true}
 use mathlib.Core.List.{List, [], ◌++◌, ◌∷◌}
 use mathlib.Core.Path.{◌≡◌, ap, refl}
@@ -43,12 +43,10 @@ module _ (l : List ℕ) (i : ℕ) where
 pub to_end : (l : List ℕ) (at : ℕ) → take (length l - at) (drop at l) ≡ drop at l
 to_end l at = take_all (length l - at) (drop at l) (omega (arith, length-drop at l))
 
-in_front : (n : ℕ) (l : List ℕ) → length l ≤ n → l ++ drop (length l) (replicate n 0) ≡ pad_with 0 n l
+-- a name at the front of zeros
+pub in_front : (n : ℕ) (l : List ℕ) → length l ≤ n → l ++ drop (length l) (replicate n 0) ≡ pad_with 0 n l
 unfolding pad_with
 in_front zero [] fits = refl
 in_front zero (b ∷ l) fits = absurd (omega arith)
 in_front (suc n) [] fits = ap (0 ∷◌) (in_front n [] (omega arith))
 in_front (suc n) (b ∷ l) fits = ap (b ∷◌) (in_front n l (omega arith))
-
-pub title_copied : (name : List ℕ) → length name ≤ 12 → take (length name) name ++ drop (length name) (replicate 12 0) ≡ title_of name
-title_copied name fits = rw (take-length name) (in_front 12 name fits)

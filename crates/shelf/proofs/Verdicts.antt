@@ -4,22 +4,16 @@ use Prim.Native.Nat.{◌*◌, ◌+◌, ◌≤◌, ℕ}
 use Rattle.working.proofs.laws.Tests.{both}
 use Rattle.working.specs.Entries.{pasted}
 use Rattle.working.specs.Shelves.{is_name, is_shelf, place_for, place_named, places_made, position_in, title_of}
-use borrow.Author.Tests.{eqb-true, leb-true, not-false, not-true}
+use borrow.Author.Tests.{eqb-true, leb-true}
 use lib.Dec.{eqb, leb}
-use lib.ListN.{drop, length, take}
-use lib.Seq.{drop-drop, take-length}
-use mathlib.Core.Bool.{Bool, false, not, true}
+use lib.ListN.{drop, length, length-drop, length-take, take}
+use lib.Seq.{drop-drop}
+use mathlib.Core.Bool.{true}
 use mathlib.Core.List.{List, ◌++◌}
 use mathlib.Core.Path.{◌∙◌, ◌≡◌, ap, sym}
-use native.Mathlib.Nat.{zero-add}
+use native.Mathlib.Omega.{arith}
 
--- ---- a test of the code and of the definition
-
-pub holds : {r b : Bool} → r ≡ b → not r ≡ false → b ≡ true
-holds {r} is h = sym is ∙ not-false r h
-
-pub fails : {r b : Bool} → r ≡ b → not r ≡ true → b ≡ false
-fails {r} is h = sym is ∙ not-true r h
+-- ---- the place of a name
 
 pub at_place : (shelf name : List ℕ) {title : List ℕ} {place : ℕ} → place ≡ place_for title 16 shelf → title ≡ title_of name → place_named shelf name ≡ place
 at_place shelf name found titled = sym (found ∙ ap (λ t. place_for t 16 shelf) titled)
@@ -36,7 +30,8 @@ long-shelf shelf h = eqb-true (length shelf) 4688 (both (eqb (length shelf) 4688
 
 -- ---- a position at the front of a buffer, of which a slice has k bytes
 
-pub fetched : (shelf buffer : List ℕ) (place k : ℕ) → k ≡ 281
-    → let position = take k (drop (293 * place + 12) shelf) in
-    take (length position) position ++ drop (length position) buffer ≡ pasted buffer 0 (position_in (drop (293 * place) shelf))
-fetched shelf buffer place k long = rw (long, take-length (take 281 (drop (293 * place + 12) shelf)), ← drop-drop 12 (293 * place) shelf, zero-add)
+pub fetched : (shelf buffer : List ℕ) (place k : ℕ) → k ≡ 281 → 293 * place + 293 ≤ length shelf
+    → take k (drop (293 * place + 12) shelf) ++ drop 281 buffer ≡ pasted buffer 0 (position_in (drop (293 * place) shelf))
+fetched shelf buffer place k whole inside =
+    let long : length (position_in (drop (293 * place) shelf)) ≡ 281 = simp (length-take, length-drop) (omega arith) in
+    rw (whole, long, ← drop-drop 12 (293 * place) shelf)

@@ -2,8 +2,6 @@
 ghost use Rattle.std.specs.Prelude.{◌≤◌, length, ◌≡◌};
 ghost use Rattle.working.specs.Shelves.{is_letter, is_name, is_title, is_zero, letters_in, title_of};
 
-use bytes::copy;
-
 // The bytes of a name in its place.
 pub const NAME: usize = 12;
 
@@ -60,6 +58,6 @@ pub(crate) fn title_of(name: &[u8]) -> [u8; NAME]
     ensures { result ≡ title_of name.now }
 {
     let mut title = [0u8; NAME];
-    copy(name, &mut title);
+    title[..name.len()].copy_from_slice(name);
     title
 }

@@ -7,7 +7,6 @@ ghost use Rattle.working.specs.Shelves.{fetch_tests, fetched_from, is_shelf, sto
 
 use crate::names::{NAME, is_name, title_of};
 use crate::places::{PLACE, PLACES, SHELF, place_for, places_made};
-use bytes::copy;
 use position::{POSITION, is_position};
 use working::{Refusal, Verdict};
 
@@ -25,8 +24,8 @@ fn put_place(shelf: &mut [u8], place: usize, title: &[u8], position: &[u8])
     requires { (length shelf.old ≡ 4688) × ((place < 16) × ((length title.now ≡ 12) × (length position.now ≡ 281))) }
     ensures { shelf.new ≡ pasted shelf.old (293 * place) (title.now ++ position.now) }
 {
-    copy(title, &mut shelf[PLACE * place..]);
-    copy(position, &mut shelf[PLACE * place + NAME..]);
+    shelf[PLACE * place..PLACE * place + NAME].copy_from_slice(title);
+    shelf[PLACE * place + NAME..PLACE * place + PLACE].copy_from_slice(position);
 }
 
 // The position, kept under the name: in the place that has the name, else in the first unused one. Refusal 5, 24, 25 or 26 alters nothing.
@@ -73,6 +72,6 @@ pub fn fetch(shelf: &[u8], name: &[u8], buffer: &mut [u8]) -> Verdict
     if buffer.len() < POSITION {
         return Verdict::Refused(Refusal::BufferTooShort);
     }
-    copy(&shelf[PLACE * place + NAME..PLACE * place + PLACE], buffer);
+    buffer[..POSITION].copy_from_slice(&shelf[PLACE * place + NAME..PLACE * place + PLACE]);
     Verdict::Allowed
 }

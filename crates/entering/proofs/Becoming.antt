@@ -98,9 +98,9 @@ pub record Looked (w : List ℕ) (e : Entry) : Type 0 where
   pub force_is : force ≡ (section_in w).force
   pub verdict_is : verdict ≡ first_of (station_tests force desk.clock e.time)
 
-abbrev pub look : {w : List ℕ} {e : Entry} {x : Station} {d : Desk} {f : Bool} {v : Verdict} → x ≡ station_of e.station → d ≡ desk_of (section_in w) x
+abbrev pub look : {w : List ℕ} (e : Entry) {x : Station} {d : Desk} {f : Bool} {v : Verdict} → x ≡ station_of e.station → d ≡ desk_of (section_in w) x
     → f ≡ (section_in w).force → v ≡ first_of (station_tests f d.clock e.time) → Looked w e
-look at desk force verdict = record { at = _; desk = _; force = _; verdict = _; at_is = at; desk_is = desk; force_is = force; verdict_is = verdict }
+look e at desk force verdict = record { at = _; desk = _; force = _; verdict = _; at_is = at; desk_is = desk; force_is = force; verdict_is = verdict }
 
 -- 7 and 9, an act's own tests and its effect, of what was looked at
 module _ {w : List ℕ} {e : Entry} where
@@ -165,15 +165,13 @@ module _ {w w₁ : List ℕ} {e : Entry} {act : Act} {given : Answer} where
   act_done p is = enters_by p.looked Allowed (decides p ∙ is)
 
 -- a departure that no test refuses has a form number left, and room for one more sent
-pub may_leave : {w : List ℕ} {e : Entry} {act : Act} (p : Passed w e act) (tests : List Test) → let l = p.looked in
-    own_by l act ≡ tests ++ last_tests l.desk.sent l.desk.last l.desk.interval e.time → p.own ≡ Allowed
-    → (l.desk ≡ desk_of (section_in w) l.at) × (l.desk.last < 9999) × (l.desk.sent < 12)
-may_leave {e = e} p tests are is =
-    let d = p.looked.desk in
-    let last = last_tests d.sent d.last d.interval e.time in
-    let none = none_holds (tests ++ last) (ap first_of (sym are) ∙ sym p.own_is ∙ is) in
-    let passes = last_passes d.sent d.last d.interval e.time (none_of_both tests last none).1 in
-    (p.looked.desk_is, passes.unused, passes.room)
+pub may_leave : {own : Verdict} (tests : List Test) (d : Desk) (time : ℕ) → own ≡ first_of (tests ++ last_tests d.sent d.last d.interval time) → own ≡ Allowed
+    → (d.last < 9999) × (d.sent < 12)
+may_leave tests d time is allowed =
+    let last = last_tests d.sent d.last d.interval time in
+    let none = none_holds (tests ++ last) (sym is ∙ allowed) in
+    let passes = last_passes d.sent d.last d.interval time (none_of_both tests last none).1 in
+    (passes.unused, passes.room)
 
 -- a vehicle is put in, and then the figures
 pub leaves : {w u w₁ : List ℕ} {x : Station} {time form sent : ℕ} {movement : Movement} {class : ℕ} {v : Vehicle} → v ≡ vehicle_for x form movement class

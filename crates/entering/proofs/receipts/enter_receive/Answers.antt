@@ -1,0 +1,29 @@
+-- The tests are the definition's, and where none holds the vehicle is received and the desk altered by it.
+-- Assumes nothing.
+use Rattle.entering.proofs.Becoming.{act_done, first_refused, look, own-refused, pass, vehicles_and_desk}
+use Rattle.words.specs.Words.{start_on}
+use Rattle.working.specs.Effects.{arrive_desk}
+use Rattle.working.specs.Sections.{remove_at}
+use Rattle.entering.proofs.receipts.enter_receive.Goals as goal
+
+pub returns-in-Refused : goal.returns-in-Refused
+returns-in-Refused c =
+    let l = look c.args.e c.station_of-at.ensures c.desk-d.ensures c.in_force.ensures c.station_verdict-verdict.ensures in
+    first_refused l c.in-Refused.is c.refuse.ensures
+
+pub returns-in-Refused-own : goal.returns-in-Refused-own
+returns-in-Refused-own c =
+    let l = look c.args.e c.station_of-at.ensures c.desk-d.ensures c.in_force.ensures c.station_verdict-verdict.ensures in
+    own-refused (pass l c.in_default.is (rw (← c.nearest-v.ensures, ← c.station_of-sender.ensures) c.receive_verdict-own.ensures)) c.in-Refused-own.is
+    c.refuse-in-Refused-own.ensures
+
+pub returns : goal.returns
+returns c =
+    let l = look c.args.e c.station_of-at.ensures c.desk-d.ensures c.in_force.ensures c.station_verdict-verdict.ensures in
+    act_done (pass l c.in_default.is (rw (← c.nearest-v.ensures, ← c.station_of-sender.ensures) c.receive_verdict-own.ensures)) c.in_default-own.is
+    (record {
+      answer = c.accepted.ensures;
+      words = rw (← c.nearest-v.ensures)
+          (vehicles_and_desk l.at (remove_at l.at) (λ start. start_on l.at start 1) (λ d. arrive_desk l.at d c.args.e.time c.nearest-v.result) l.desk_is
+          c.remove.ensures c.arrive.ensures);
+    })

@@ -3,7 +3,8 @@ use Rattle.std.specs.Prelude.{◌*◌, ◌+◌, ◌<◌, ℕ, eqb, leb, Bool, �
 use Rattle.section.specs.declared.made.Survey.{Survey}
 use Rattle.section.specs.declared.made.Tally.{Tally}
 use Rattle.working.specs.Entries.{every}
-use Rattle.working.specs.WellMade.{all, count_from, desk_figures, figure_tests, is_blank, is_from, movement_tests, not_later, numbered, one_if, ordered, same_form, shaped, zero_tests}
+use Rattle.working.specs.WellMade.{all, count_from, is_blank, is_from, movement_tests, numbered, one_if, ordered, same_form, shaped}
+use Rattle.working.specs.WellMade.{desk_figures, figure_tests, not_later, zero_tests}
 use Rattle.working.specs.declared.Desk.{Desk}
 use Rattle.working.specs.declared.Movement.{Movement}
 use Rattle.working.specs.declared.Vehicle.{Vehicle}

@@ -11,6 +11,7 @@ use position::{PLACE, counts_bytes, desk_bytes, one_if, vehicle_bytes};
 use working::{Section, Vehicle};
 
 // Whether a vehicle, of which the ten bytes are lent, is the unused one: an OPEN, and zero in every other figure.
+#[tactic(auto, using(crate::proofs::Unused::opens), unfolding(working::specs::Positions::vehicle_bytes))]
 fn is_unused(place: [u8; PLACE], v: Vehicle) -> bool
     requires { place ≡ vehicle_bytes v }
     ensures { result ≡ is_blank v }

@@ -228,7 +228,7 @@ record Balance : Type 0 where
   holds : ℕ
   waits : ℕ
   trains : ℕ
-  given_up_lem : ℕ
+  given_up : ℕ
   way : ℕ
 
 abbrev balance_of : List Todo → Station → Balance
@@ -238,30 +238,30 @@ balance_of l x = record {
   holds = (desk_of (after fresh l) (other_at x)).clears.holds;
   waits = (desk_of (after fresh l) (other_at x)).waiting;
   trains = trains_of (done fresh l) (after fresh l) (other_at x);
-  given_up_lem = given_up_by (after fresh l) (other_at x);
+  given_up = given_up_by (after fresh l) (other_at x);
   way = on_the_way_to (after fresh l) (other_at x);
 }
 
 balance : (l : List Todo) (x : Station) (b : Balance) → balance_of l x ≡ b → b.force ≡ true
-    → b.owes ≡ b.holds + b.waits + b.trains + b.given_up_lem + b.way
+    → b.owes ≡ b.holds + b.waits + b.trains + b.given_up + b.way
 balance l x b e force =
     let o : (desk_of (after fresh l) x).clears.owes ≡ b.owes = ap (λ (z : Balance). z.owes) e in
     let h : (desk_of (after fresh l) (other_at x)).clears.holds ≡ b.holds = ap (λ (z : Balance). z.holds) e in
     let k : (desk_of (after fresh l) (other_at x)).waiting ≡ b.waits = ap (λ (z : Balance). z.waits) e in
     let t : trains_of (done fresh l) (after fresh l) (other_at x) ≡ b.trains = ap (λ (z : Balance). z.trains) e in
-    let u : given_up_by (after fresh l) (other_at x) ≡ b.given_up_lem = ap (λ (z : Balance). z.given_up_lem) e in
+    let u : given_up_by (after fresh l) (other_at x) ≡ b.given_up = ap (λ (z : Balance). z.given_up) e in
     let w : on_the_way_to (after fresh l) (other_at x) ≡ b.way = ap (λ (z : Balance). z.way) e in
     omega (arith, (demand3 (runs fresh l)).owed (ap (λ (z : Balance). z.force) e ∙ force) x)
 
 -- a list in force with these figures, and that the first is the sum of the rest
 abbrev pub Owed : List (List ℕ) → Station → ℕ → ℕ → ℕ → ℕ → ℕ → ℕ → Type 0
-Owed l x owes holds waits trains given_up_lem way =
-    (balance_of (list l) x ≡ record { force = true; owes = owes; holds = holds; waits = waits; trains = trains; given_up_lem = given_up_lem; way = way })
-    × (owes ≡ holds + waits + trains + given_up_lem + way)
+Owed l x owes holds waits trains given_up way =
+    (balance_of (list l) x ≡ record { force = true; owes = owes; holds = holds; waits = waits; trains = trains; given_up = given_up; way = way })
+    × (owes ≡ holds + waits + trains + given_up + way)
 
-pub owed : (l : List (List ℕ)) (x : Station) {owes holds waits trains given_up_lem way : ℕ}
-    → balance_of (list l) x ≡ record { force = true; owes = owes; holds = holds; waits = waits; trains = trains; given_up_lem = given_up_lem; way = way }
-    → Owed l x owes holds waits trains given_up_lem way
+pub owed : (l : List (List ℕ)) (x : Station) {owes holds waits trains given_up way : ℕ}
+    → balance_of (list l) x ≡ record { force = true; owes = owes; holds = holds; waits = waits; trains = trains; given_up = given_up; way = way }
+    → Owed l x owes holds waits trains given_up way
 owed l x e = (e, balance (list l) x _ e refl)
 
 -- x is the station that opened, and the other owes it two: on a RETURN on the way, then held, then one held and one on the line, then both on the line;

@@ -56,17 +56,17 @@ maps_by_kind = refl
 -- ---- lists of entries
 
 -- the minute in two bytes
-abbrev train : ℕ → ℕ → ℕ → List ℕ
+abbrev pub train : ℕ → ℕ → ℕ → List ℕ
 train station high low = 0x07 ∷ 5 ∷ station ∷ high ∷ low ∷ []
 
-abbrev todo : List (List ℕ) → List Todo
+abbrev pub todo : List (List ℕ) → List Todo
 todo l = map (λ bytes. record { form = by_value; bytes = bytes }) l
 
-abbrev answers : Section → List (List ℕ) → List Answer
+abbrev pub answers : Section → List (List ℕ) → List Answer
 answers s l = map (λ (d : Done). d.answer) (done s (todo l))
 
 -- a departure's, on T/C 602 alone and at both speeds
-abbrev order : ℕ → Answer
+abbrev pub order : ℕ → Answer
 order form = Accepted form 256 (Both 25 10)
 
 -- three trains from A, one from B, each received
@@ -118,7 +118,7 @@ log_departures = (refl, refl)
 
 -- ---- the thirteenth departure
 
-abbrev twelve : List (List ℕ)
+abbrev pub twelve : List (List ℕ)
 twelve =
     begin ∷ train 1 0 0 ∷ train 1 0 30 ∷ train 1 0 60 ∷ train 1 0 90 ∷ train 1 0 120 ∷ train 1 0 150 ∷ train 1 0 180 ∷ train 1 0 210 ∷ train 1 0 240
     ∷ train 1 1 14 ∷ train 1 1 44 ∷ train 1 1 74 ∷ []

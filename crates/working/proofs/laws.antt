@@ -22,12 +22,14 @@ pub mod Ranges
 -- the numbers that a step answers with
 pub mod Numbers
 -- ---- logs
--- the turns of a log; the same bytes further on in a log; and whole entries put one behind another, read again
+-- the turns of a log; the counts of those refused; the same bytes further on in a log; and whole entries put one behind another, read again
 pub mod Turns
+pub mod Counts
 pub mod Moved
 pub mod ReadAgain
 -- ---- bytes lent, positions and shelves
--- two pastes in a row; the places of a well-made section; a shelf laid out from its names
+-- two pastes in a row; the places of a well-made section; a shelf laid out from its names; what a store leaves on any shelf, and what a fetch reads of it
 pub mod Pastes
 pub mod OwnPlaces
 pub mod Shelves
+pub mod Stores

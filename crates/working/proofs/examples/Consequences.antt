@@ -13,7 +13,8 @@ use Rattle.working.specs.Effects.{is_slow}
 use Rattle.working.specs.Entries.{every}
 use Rattle.working.specs.Runs.{Done, Run, StepForm, by_value, in_place, results}
 use Rattle.working.specs.Sections.{desk_of, emptied, fresh, fresh_desk, none_refused, number_at, other_at}
-use Rattle.working.specs.Terms.{Departure, Kind, OPEN, RETURN, THROUGH, TRAIN, departure_of, given_up_by, is_departure, kind_in, left_slowly, on_the_way_to, trains_of, vehicle_at}
+use Rattle.working.specs.Terms.{AcceptedAt, Departure, Kind, OPEN, RETURN, ReceivesIt, THROUGH, TRAIN, departure_of, given_up_by, is_departure, kind_in, left_slowly, on_the_way_to}
+use Rattle.working.specs.Terms.{trains_of, vehicle_at}
 use Rattle.working.specs.declared.Answer.TheVariants.{Accepted, Refused}
 use Rattle.working.specs.declared.Answer.{Answer}
 use Rattle.working.specs.declared.Interval.TheVariants.{Since, Stopped}
@@ -32,7 +33,7 @@ use lib.Dec.{eqb}
 use mathlib.Core.Bool.{Bool, ◌||◌, false, false≢true, true, true≢false}
 use mathlib.Core.List.{List, [], ◌++◌, ◌∷◌}
 use mathlib.Core.Option.{Option, none, some}
-use mathlib.Core.Path.{◌∙◌, ◌≡◌, ap, refl}
+use mathlib.Core.Path.{◌∙◌, ◌≡◌, ap, refl, sym}
 use native.Mathlib.Omega.{arith}
 
 -- ---- lists
@@ -376,6 +377,63 @@ train_and_receipt_exchanged = (
       (other_differs B) (λ r. false≢true r.0),
 )
 
+-- a THROUGH of A and one of B in view 3; then A takes its own back while B sends a second; then A receives B's first
+abbrev through_a : Done
+through_a = returned (through 1 0 10) (Accepted 1 1 (Kmh 15))
+
+abbrev through_b : Done
+through_b = in_memory (0x1F ∷ 0x03 ∷ 0x02 ∷ 0x00 ∷ 0x07 ∷ 0x03 ∷ 0x01 ∷ []) (Accepted 1 1 Walking)
+
+abbrev own_at_a : Done
+own_at_a = in_memory (receive 1 11 1 1) plain
+
+abbrev second_b : Done
+second_b = returned (through 2 0 37) (Accepted 2 1 (Kmh 15))
+
+abbrev first_at_a : Done
+first_at_a = in_memory (receive 1 50 2 1) plain
+
+abbrev passing : List Todo
+passing = todos (begins ++ through_a ∷ through_b ∷ own_at_a ∷ second_b ∷ first_at_a ∷ [])
+
+-- two THROUGHs; and a receipt and a THROUGH
+throughs_exchanged : Run fresh (begins ++ through_b ∷ through_a ∷ own_at_a ∷ second_b ∷ first_at_a ∷ []) (after fresh passing)
+    × Run fresh (begins ++ through_a ∷ through_b ∷ second_b ∷ own_at_a ∷ first_at_a ∷ []) (after fresh passing)
+unfolding step_computes
+throughs_exchanged = (
+  (demand3 (runs fresh passing)).swap begins through_a through_b (own_at_a ∷ second_b ∷ first_at_a ∷ []) A B (acts.Through Clear) (acts.Through Impaired) refl
+      (record { time = 10; entry = refl; accepted = refl })
+      (record { time = 7; entry = refl; accepted = refl })
+      (other_differs A) (λ r. true≢false (ap is_departure r.1)),
+  (demand3 (runs fresh passing)).swap (begins ++ through_a ∷ through_b ∷ []) own_at_a second_b (first_at_a ∷ []) A B (acts.Receive A 1) (acts.Through Clear) refl
+      (record { time = 11; entry = refl; accepted = refl })
+      (record { time = 37; entry = refl; accepted = refl })
+      (other_differs A) (λ r. false≢true r.0),
+)
+
+-- an OPEN of A and a THROUGH of B
+abbrev opening : List Todo
+opening = todos (begins ++ open_a ∷ through_b ∷ [])
+
+open_and_through_exchanged : Run fresh (begins ++ through_b ∷ open_a ∷ []) (after fresh opening)
+unfolding step_computes
+open_and_through_exchanged =
+    (demand3 (runs fresh opening)).swap begins open_a through_b [] A B (acts.Open Impaired 4 5) (acts.Through Impaired) refl
+    (record { time = 0; entry = refl; accepted = refl })
+    (record { time = 7; entry = refl; accepted = refl })
+    (other_differs A) (λ r. true≢false (ap is_departure r.1))
+
+-- a RETURN with any other, either first: the clause excludes no kind. A list for it there is none: beside a RETURN there is no accepted entry of the other station but its receipt
+-- (`none_before_return` and `none_behind_return`, theorems/ReturnAlone).
+returns_exchanged : {l : List Done} {s : Section} → Run fresh l s → (before : List Done) (d e : Done) (behind : List Done) (x : Station) (asked granted : ℕ) (other : acts.Act)
+    → (l ≡ before ++ d ∷ e ∷ behind → AcceptedAt d x (acts.Return asked granted) → AcceptedAt e (other_at x) other → (ReceivesIt (acts.Return asked granted) x d.answer other → ⊥)
+    → Run fresh (before ++ e ∷ d ∷ behind) s)
+    × (l ≡ before ++ e ∷ d ∷ behind → AcceptedAt e (other_at x) other → AcceptedAt d x (acts.Return asked granted) → Run fresh (before ++ d ∷ e ∷ behind) s)
+returns_exchanged run before d e behind x asked granted other = (
+  λ is p q apart. (demand3 run).swap before d e behind x (other_at x) (acts.Return asked granted) other is p q (other_differs x) apart,
+  λ is q p. (demand3 run).swap before e d behind (other_at x) x other (acts.Return asked granted) is q p (λ same. other_differs x (sym same)) (λ r. true≢false (ap is_departure r.1)),
+)
+
 -- the sections that these lists end in, in figures
 abbrev ended : Section
 ended = working (counts 1 2 3) (vehicle Through 2 2 1 false 1 ∷ []) (figures 121 3 2 (Since 121) false 0 0 0 0) (figures 155 2 1 (Since 155) false 0 0 0 0)
@@ -389,3 +447,14 @@ exchanged_ends :
     ≡ true
 unfolding step_computes
 exchanged_ends = refl
+
+-- and those of the two above
+passing_ends :
+    every
+    (same_section (after fresh passing) (working none_refused (vehicle Through 2 2 1 false 1 ∷ []) (figures 50 1 0 Stopped false 0 0 0 0) (figures 37 2 2 (Since 37) false 0 0 0 0))
+    ∷ same_section (after fresh opening)
+    (working none_refused (vehicle (Open 5) 1 1 2 false 4 ∷ vehicle Through 2 1 1 false 1 ∷ []) (figures 0 1 1 (Since 0) true 0 0 0 0) (figures 7 1 1 (Since 7) false 0 0 0 0))
+    ∷ [])
+    ≡ true
+unfolding step_computes
+passing_ends = refl

@@ -306,6 +306,20 @@ pub kinds_leave : rows_leaving_another 1 kinds ≡ []
 unfolding step_computes
 kinds_leave = refl
 
+-- 19 also in the very minute of the departure before
+abbrev same_minute : Station → List Edge
+same_minute x =
+    refused (Of x) (seen_from x [] (figures 100 9998 11 (Since 100) false 0 8 0 0)) (opening x 1 1 1) IntervalRunning
+    ∷ refused (Of x) (seen_from x [] (figures 100 9998 11 (Since 100) false 0 8 0 0)) (passing x 1) IntervalRunning
+    ∷ refused (Of x) (seen_from x [] (figures 100 9998 11 (Since 100) true 1 3 8 8)) (returning_with x 1 3) IntervalRunning
+    ∷ refused (Of x) (seen_from x [] (figures 100 9998 11 (Since 100) true 1 3 2 0)) (running_with 5 x 1 3) IntervalRunning
+    ∷ refused (Of x) (seen_from x [] (figures 100 9998 11 (Since 100) true 1 3 2 0)) (running_with 9 x 1 3) IntervalRunning
+    ∷ []
+
+pub same_minute_holds : let rows = same_minute A ++ same_minute B in (answers_to rows ≡ expected_of rows) × (rows_leaving_another 1 rows ≡ [])
+unfolding step_computes
+same_minute_holds = (refl, refl)
+
 -- ---- document 01's own step, where T-02 altered it: "RETURN and TRAIN set holds to granted", 0 too and whatever is owed; 16 "granted above asked at S, or on a TRAIN
 -- that leaves holds above 0", and not because the station owes
 

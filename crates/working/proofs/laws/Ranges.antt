@@ -1,5 +1,5 @@
 -- What the ranges of an entry that a single line's table takes say of its act: the class and what is asked and granted lie where document 01 has them; and how its kind and
--- its station tell whose it is.
+-- its station tell whose it is, the station of an entry that either table takes.
 -- The kind fixes which bits stand, and a field that is there lies in its range, while one that is absent is 0.
 -- Assumes nothing.
 use Prim.Native.Nat.{◌+◌, ◌≤◌, ℕ}
@@ -19,6 +19,7 @@ use Rattle.working.specs.declared.Refusal.{Refusal}
 use Rattle.working.specs.declared.Station.TheVariants.{A, B}
 use Rattle.working.specs.declared.Station.{Station}
 use Rattle.working.specs.declared.Table.TheVariants.{SingleLine}
+use Rattle.working.specs.declared.Table.{Table}
 use Rattle.working.specs.declared.Verdict.TheVariants.{Allowed}
 use Rattle.working.specs.declared.Whose.TheVariants.{NoStation, Of}
 use Rattle.working.specs.declared.Whose.{Whose}
@@ -85,6 +86,25 @@ is_bad (Says event) = ⊥
 bad_says : {why : Refusal} {event : Event} → Bad why ≡ Says event → ⊥
 bad_says e = subst is_bad e tt
 
+-- ---- the station of an entry that either table takes
+
+module _ (table : Table) (e : Entry) (allowed : judge table e ≡ Allowed) where
+  -- bit 1, the station's, stands where the kind has it
+  pub station_bit : (kind : ℕ) → e.kind ≡ kind → bit_fits (row_of table kind) e.map 1 ≡ true
+  unfolding map_fits
+  station_bit kind is = bit_fits_lem (row_of table kind) e.map (0 ∷ 1 ∷ 2 ∷ 3 ∷ 4 ∷ 5 ∷ 6 ∷ 7 ∷ []) 1 (rw is at (taken table e allowed).fits) refl
+
+  pub no_station : not (stands 1 e.map) ≡ true → Placed e.kind e.station NoStation
+  no_station absent = nowhere (eqb-true e.station 0 (rw (not-true (stands 1 e.map) absent) at (taken table e allowed).ranges.station))
+
+  pub its_station : (e.kind ≡ 7 → ⊥) → stands 1 e.map ≡ true → Placed e.kind e.station (Of (station_of e.station))
+  its_station no-meet there =
+      own (station_of e.station) (by (between (stands 1 e.map) 1 2 e.station there (taken table e allowed).ranges.station) (eqb e.station 1) refl) no-meet
+    where
+      by : (1 ≤ e.station) × (e.station ≤ 2) → (b : Bool) → eqb e.station 1 ≡ b → e.station ≡ number_at (cond b A B)
+      by range true is = eqb-true e.station 1 is
+      by range false is = omega (arith, eqb-false e.station 1 is)
+
 -- ---- an entry that a single line's table takes
 
 module _ (e : Entry) (allowed : judge SingleLine e ≡ Allowed) where
@@ -122,21 +142,6 @@ module _ (e : Entry) (allowed : judge SingleLine e ≡ Allowed) where
 
   -- ---- whose it is
 
-  -- bit 1, the station's, stands where the kind has it
-  bit : (kind : ℕ) → e.kind ≡ kind → bit_fits (row_of SingleLine kind) e.map 1 ≡ true
-  unfolding map_fits
-  bit kind is = bit_fits_lem (row_of SingleLine kind) e.map (0 ∷ 1 ∷ 2 ∷ 3 ∷ 4 ∷ 5 ∷ 6 ∷ 7 ∷ []) 1 (rw is at (taken SingleLine e allowed).fits) refl
-
-  no_station : not (stands 1 e.map) ≡ true → Placed e.kind e.station NoStation
-  no_station absent = nowhere (eqb-true e.station 0 (rw (not-true (stands 1 e.map) absent) at (taken SingleLine e allowed).ranges.station))
-
-  its_station : (e.kind ≡ 7 → ⊥) → stands 1 e.map ≡ true → Placed e.kind e.station (Of (station_of e.station))
-  its_station no-meet there = own (station_of e.station) (by (between (stands 1 e.map) 1 2 e.station there (taken SingleLine e allowed).ranges.station) (eqb e.station 1) refl) no-meet
-    where
-      by : (1 ≤ e.station) × (e.station ≤ 2) → (b : Bool) → eqb e.station 1 ≡ b → e.station ≡ number_at (cond b A B)
-      by range true is = eqb-true e.station 1 is
-      by range false is = omega (arith, eqb-false e.station 1 is)
-
   -- of this kind, or of a higher one
   from : (P : Event → Type 0) (kind : ℕ) {x y : Event} → kind ≤ e.kind → (e.kind ≡ kind → P x) → (kind + 1 ≤ e.kind → P y) → P (cond (eqb e.kind kind) x y)
   from P kind h its higher =
@@ -145,15 +150,18 @@ module _ (e : Entry) (allowed : judge SingleLine e ≡ Allowed) where
   placed : Placed e.kind e.station (whose_is (Says (event_of e)))
   placed =
       let P : Event → Type 0 = λ (event : Event). Placed e.kind e.station (whose_is (Says event)) in
-      from P 1 known.0 (λ is. no_station (bit 1 is))
-      (λ h. from P 2 h (λ is. its_station (λ seven. omega arith) (bit 2 is))
-      (λ h. from P 3 h (λ is. its_station (λ seven. omega arith) (bit 3 is))
-      (λ h. from P 4 h (λ is. its_station (λ seven. omega arith) (bit 4 is))
-      (λ h. from P 5 h (λ is. its_station (λ seven. omega arith) (bit 5 is))
-      (λ h. from P 6 h (λ is. its_station (λ seven. omega arith) (bit 6 is))
+      let bit = station_bit SingleLine e allowed in
+      let none = no_station SingleLine e allowed in
+      let its = its_station SingleLine e allowed in
+      from P 1 known.0 (λ is. none (bit 1 is))
+      (λ h. from P 2 h (λ is. its (λ seven. omega arith) (bit 2 is))
+      (λ h. from P 3 h (λ is. its (λ seven. omega arith) (bit 3 is))
+      (λ h. from P 4 h (λ is. its (λ seven. omega arith) (bit 4 is))
+      (λ h. from P 5 h (λ is. its (λ seven. omega arith) (bit 5 is))
+      (λ h. from P 6 h (λ is. its (λ seven. omega arith) (bit 6 is))
       (λ h. from P 7 h (λ is. met is)
-      (λ h. either P (eqb e.kind 9) (λ is. its_station (λ seven. omega (arith, eqb-true e.kind 9 is)) (bit 9 (eqb-true e.kind 9 is)))
-      (λ other. no_station (bit 8 (omega (arith, known.1, eqb-false e.kind 9 other)))))))))))
+      (λ h. either P (eqb e.kind 9) (λ is. its (λ seven. omega (arith, eqb-true e.kind 9 is)) (bit 9 (eqb-true e.kind 9 is)))
+      (λ other. none (bit 8 (omega (arith, known.1, eqb-false e.kind 9 other)))))))))))
 
 -- ---- what is read
 

@@ -24,7 +24,7 @@ use native.Mathlib.Omega.{arith}
 -- ---- names
 
 -- two pairs of which the bytes are the same only together
-same_when : (a b c d : List ℕ) → (a ≡ b → c ≡ d) → (c ≡ d → a ≡ b) → same_bytes a b ≡ same_bytes c d
+pub same_when : (a b c d : List ℕ) → (a ≡ b → c ≡ d) → (c ≡ d → a ≡ b) → same_bytes a b ≡ same_bytes c d
 same_when a b c d to back = by (same_bytes a b) (same_bytes c d) refl refl
   where
     by : (x y : Bool) → same_bytes a b ≡ x → same_bytes c d ≡ y → x ≡ y
@@ -34,11 +34,11 @@ same_when a b c d to back = by (same_bytes a b) (same_bytes c d) refl refl
     by false false p q = refl
 
 -- letters, at most 12: every name, and what stands in an unused place
-record Spelt (x : List ℕ) : Type 0 where
-  letters : letters_in x ≡ length x
-  fits : length x ≤ 12
+pub record Spelt (x : List ℕ) : Type 0 where
+  pub letters : letters_in x ≡ length x
+  pub fits : length x ≤ 12
 
-spelt : (x : List ℕ) → is_name x ≡ true → Spelt x
+pub spelt : (x : List ℕ) → is_name x ≡ true → Spelt x
 unfolding is_name
 spelt x h =
     let e = each_holds (leb 1 (length x) ∷ leb (length x) 12 ∷ eqb (letters_in x) (length x) ∷ []) h in
@@ -48,7 +48,7 @@ spelt_none : Spelt []
 unfolding letters_in
 spelt_none = record { letters = refl; fits = omega arith }
 
-letters_padded : (n : ℕ) (x : List ℕ) → length x ≤ n → letters_in x ≡ length x → letters_in (pad_with 0 n x) ≡ length x
+pub letters_padded : (n : ℕ) (x : List ℕ) → length x ≤ n → letters_in x ≡ length x → letters_in (pad_with 0 n x) ≡ length x
 unfolding letters_in pad_with
 letters_padded zero [] fits h = refl
 letters_padded zero (b ∷ x) fits h = absurd (omega arith)
@@ -60,21 +60,21 @@ letters_padded (suc n) (b ∷ x) fits h = by (is_letter b) h (letters_padded n x
     by true h later = ap suc (later (omega arith))
     by false h later = h
 
-zeros_behind : (n : ℕ) (x : List ℕ) → is_zero (drop (length x) (pad_with 0 n x)) ≡ true
+pub zeros_behind : (n : ℕ) (x : List ℕ) → is_zero (drop (length x) (pad_with 0 n x)) ≡ true
 unfolding is_zero pad_with
 zeros_behind zero [] = refl
 zeros_behind zero (b ∷ x) = refl
 zeros_behind (suc n) [] = zeros_behind n []
 zeros_behind (suc n) (b ∷ x) = zeros_behind n x
 
-name_again : {x : List ℕ} → Spelt x → take (letters_in (title_of x)) (title_of x) ≡ x
+pub name_again : {x : List ℕ} → Spelt x → take (letters_in (title_of x)) (title_of x) ≡ x
 name_again {x} s = rw (letters_padded 12 x s.fits s.letters) (front_padded 0 12 x s.fits)
 
-same_title : {x y : List ℕ} → Spelt x → Spelt y → same_bytes (title_of x) (title_of y) ≡ same_bytes x y
+pub same_title : {x y : List ℕ} → Spelt x → Spelt y → same_bytes (title_of x) (title_of y) ≡ same_bytes x y
 same_title {x} {y} s t =
     same_when (title_of x) (title_of y) x y (λ same. sym (name_again s) ∙ ap (λ (l : List ℕ). take (letters_in l) l) same ∙ name_again t) (ap title_of)
 
-title_made : (x : List ℕ) → is_name x ≡ true → is_title (title_of x) ≡ true
+pub title_made : (x : List ℕ) → is_name x ≡ true → is_title (title_of x) ≡ true
 unfolding is_name is_title
 title_made x h =
     let s = spelt x h in

@@ -6,12 +6,12 @@
 -- on RETURN keeps the invariant as today's does, and what is shown of its lists follows.
 -- Assumes nothing.
 use Prim.Native.Nat.{◌+◌, ◌<◌, ℕ}
-use Rattle.working.proofs.examples.Computing.{step_computes}
+use Rattle.working.proofs.examples.Computing.{reading_computes, step_computes}
 use Rattle.working.proofs.examples.Consequences.{holding, list}
 use Rattle.working.proofs.examples.Literals.{opens, receive, returns}
 use Rattle.working.proofs.invariant.Changes.{step_is}
 use Rattle.working.proofs.invariant.Preserved.{Good, good_emptied, good_step, kept_at}
-use Rattle.working.proofs.laws.Lists.{ListAs, done, each_result, next_as, step_did}
+use Rattle.working.proofs.laws.Lists.{ListAs, after, done, each_result, next_as, runs, step_did}
 use Rattle.working.proofs.laws.Tests.{IsNot, first_is_not, zero_unless}
 use Rattle.working.proofs.theorems.Demand3.{kept}
 use Rattle.working.specs.Acts as acts
@@ -40,7 +40,7 @@ use Rattle.working.specs.declared.Verdict.{Verdict}
 use borrow.Author.Tests.{eq-eqb, ltb-true, not-true}
 use lib.Dec.{eqb, ltb}
 use mathlib.Core.Bool.{Bool, false, false≢true, not, true}
-use mathlib.Core.List.{List, [], ◌∷◌}
+use mathlib.Core.List.{List, [], ◌++◌, ◌∷◌}
 use mathlib.Core.Path.{◌∙◌, ◌≡◌, ap, refl, sym}
 use native.Mathlib.Omega.{arith}
 
@@ -216,3 +216,36 @@ guest_returns : (x : Station)
 unfolding step_computes step_with_11
 guest_returns A = (refl, refl, refl, refl)
 guest_returns B = (refl, refl, refl, refl)
+
+-- ---- and what the theorems say of them
+
+returns_there : (x : Station) → decode (returns (number_at x) 91 3) ≡ Says (At x 91 (acts.Return 0 3))
+unfolding reading_computes
+returns_there A = refl
+returns_there B = refl
+
+-- x holds two line clears, a RETURN reads 11, and no guest stands there
+no_guest_there : (x : Station) → (desk_of (reached step_with_11 (holding x)) x).guest ≡ 0
+no_guest_there x = no_guest_at_11 (done fresh (list (holding x))) (returns (number_at x) 91 3) x 91 0 3 (returns_there x) (eleven_then_fourteen x).0
+
+-- a guest stands at x: nothing held, nothing owed and nothing waiting, by the step before T-08, and today
+abbrev NoneAt : Desk → Type 0
+NoneAt d = (d.clears.holds ≡ 0) × (d.clears.owes ≡ 0) × (d.waiting ≡ 0)
+
+none_then : (x : Station) → NoneAt (desk_of (reached step_with_11 (visit x)) x)
+none_then x = let k = guests_with_11 (done fresh (list (visit x))) x (omega (arith, (guest_returns x).0)) in (k.holds, k.owes, k.waiting)
+
+none_today : (x : Station) → NoneAt (desk_of (after fresh (list (visit x))) x)
+none_today x =
+    let l = list (visit x) in
+    let k = guests_today (done fresh l) (after fresh l) (runs fresh l) x (omega (arith, (guest_returns x).1)) in
+    (k.holds, k.owes, k.waiting)
+
+-- the list with that RETURN in it: every answer and every section, and the section at the end
+as_with_11_there : (x : Station)
+    → let l = list (holding x ++ returns (number_at x) 91 3 ∷ []) in
+    (results (runs fresh l) ≡ results_by (returns_with_14 step_with_11) fresh (done fresh l)) × (after fresh l ≡ end_by step_with_11 fresh (done fresh l))
+as_with_11_there x =
+    let l = list (holding x ++ returns (number_at x) 91 3 ∷ []) in
+    let k = answered_as_with_11 (done fresh l) (after fresh l) (runs fresh l) in
+    (k.each, k.end)

@@ -1,0 +1,14 @@
+-- The first `i` numbers are those of the places, and zeros stand behind them.
+-- Assumes nothing.
+use Rattle.std.proofs.Common.{◌++◌, ◌-◌, ◌≡◌, ℕ, drop, take}
+use Rattle.section.proofs.Passes.{Up}
+use Rattle.doubleentering.specs.DoubleWords.{places_in}
+use Rattle.words.specs.Words.{ring_in}
+use Rattle.doubleentering.proofs.kept.numbers_in.Given as goal
+use lib.ListN.{replicate}
+
+abbrev pub invariant-loop-i : goal.invariant-loop-i
+invariant-loop-i l = Up l.present l.i (λ k. l.numbers ≡ take k (places_in (ring_in l.words) l.fn.at) ++ drop k (replicate {A = ℕ} 12 0))
+
+abbrev pub decreases-loop-i : goal.decreases-loop-i
+decreases-loop-i l = l.present - l.i

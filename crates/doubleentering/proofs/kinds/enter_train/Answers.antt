@@ -1,0 +1,28 @@
+-- The tests are the definition's, and where none holds the train is the last on its line.
+-- Assumes nothing.
+use Rattle.std.proofs.Common.{arith, ap, refl}
+use Rattle.doubleentering.proofs.Answering.{has_left, may_leave, may_not_leave}
+use Rattle.entering.proofs.Becoming.{look, station_by}
+use Rattle.working.specs.declared.Desk.{Desk}
+use Rattle.doubleentering.proofs.kinds.enter_train.Goals as goal
+
+pub returns-in-Refused : goal.returns-in-Refused
+returns-in-Refused c =
+    let l = look c.args.e c.station_of-at.ensures c.desk-d.ensures c.in_force.ensures c.station_verdict.ensures in
+    may_not_leave l (c.departure_verdict-verdict.ensures (station_by l) c.station_verdict.ensures) c.in-Refused.is c.refuse.ensures
+
+pub overflow_add-form : goal.overflow_add-form
+overflow_add-form c =
+    let l = look c.args.e c.station_of-at.ensures c.desk-d.ensures c.in_force.ensures c.station_verdict.ensures in
+    omega (arith, may_leave l (c.departure_verdict-verdict.ensures (station_by l) c.station_verdict.ensures) c.in_default.is)
+
+pub put_train-requires : goal.put_train-requires
+put_train-requires c =
+    let l = look c.args.e c.station_of-at.ensures c.desk-d.ensures c.in_force.ensures c.station_verdict.ensures in
+    let may = may_leave l (c.departure_verdict-verdict.ensures (station_by l) c.station_verdict.ensures) c.in_default.is in
+    (ap (λ (d : Desk). d.sent) c.desk-d.ensures, may.room)
+
+pub returns : goal.returns
+returns c =
+    let l = look c.args.e c.station_of-at.ensures c.desk-d.ensures c.in_force.ensures c.station_verdict.ensures in
+    has_left l (c.departure_verdict-verdict.ensures (station_by l) c.station_verdict.ensures) c.in_default.is refl c.put_train.ensures

@@ -48,6 +48,20 @@ pub mod kind {
     pub const LAST_TRAIN: u16 = 9;
 }
 
+/// The names of the kinds, each at the place of its number; there is none at 0.
+pub const KINDS: [&str; 10] = [
+    "",
+    "BEGIN",
+    "OPEN",
+    "THROUGH",
+    "RETURN",
+    "TRAIN",
+    "RECEIVE",
+    "MEET",
+    "RESUME",
+    "LAST TRAIN",
+];
+
 /// The stations.
 #[allow(missing_docs)]
 pub mod station {

@@ -63,7 +63,7 @@ mod refusal;
 use std::io::{self, Write};
 
 pub use entry::{
-    class, entry_length, kind, map, read_entry, station, view, write_entry, Entry, FIELDS,
+    class, entry_length, kind, map, read_entry, station, view, write_entry, Entry, FIELDS, KINDS,
     LONGEST_ENTRY,
 };
 pub use position::{

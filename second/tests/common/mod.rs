@@ -1,8 +1,11 @@
 //! A register for the tests: it enters entries one by one in both forms of the
-//! step and looks after each refusal that nothing but its count has altered.
+//! step and looks after each refusal that nothing but its count has altered. What
+//! lists of calls have in common is in `calls`.
 
 // Each test program uses its own share of these helpers.
 #![allow(dead_code)]
+
+pub mod calls;
 
 use second::entry::LONGEST_ENTRY;
 use second::{

@@ -1,4 +1,4 @@
-//! Links the static library that `rt staticlib lupinshift` builds.
+//! Links the static library that `host/archive` builds.
 
 use std::path::Path;
 

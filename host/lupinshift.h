@@ -1,4 +1,4 @@
-/* The register desk core for a host in C: link target/staticlib/liblupinshift.a, which `rt staticlib lupinshift` builds.
+/* The register desk core for a host in C: link target/staticlib/liblupinshift.a, which host/archive builds.
    All of it is of a single line.
 
    A slice is a pointer to its first place and how many places it has. Where it has none the pointer is not looked at and may be NULL.

@@ -63,7 +63,7 @@ pub const JOBS: [Job; 5] = [
     Job {
         name: "lister",
         works: [
-            Some(|log, _| written_by("target/bin/lister", log).len() as u64),
+            Some(|log, _| written_by("crates/lister/out/lister", log).len() as u64),
             Some(|log, _| written_by("second/target/release/lister", log).len() as u64),
             None,
         ],
@@ -82,7 +82,7 @@ pub const DOUBLE_LISTER: Job = Job {
     starts: true,
 };
 
-const PROVED_DOUBLE_LISTER: &str = "target/bin/doublelister";
+const PROVED_DOUBLE_LISTER: &str = "crates/doublelister/out/doublelister";
 const SECOND_DOUBLE_LISTER: &str = "second/target/release/doublelister";
 
 /// The two listers of a double line write the same.

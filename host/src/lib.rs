@@ -1,8 +1,8 @@
 //! The proved register desk core for hosts in Rust: safe functions over those
 //! that the static library exports.
 //!
-//! The archive comes first: `rt staticlib lupinshift`, in the repository's top
-//! folder, proves the core and writes `target/staticlib/liblupinshift.a`. A
+//! The archive comes first: `host/archive`, in the repository's top folder,
+//! proves the core and writes `target/staticlib/liblupinshift.a`. A
 //! host then depends on this folder by its path,
 //!
 //! ```toml

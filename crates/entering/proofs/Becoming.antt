@@ -1,16 +1,16 @@
 -- How the words of a section become those of the section after an entry: what its tests come to decides whether it is refused or carried out, and the changes of the
 -- vehicles present and of a desk, one after another, are those of the definition.
 -- Assumes nothing.
-use Prim.Native.Nat.{◌+◌, ◌-◌, ◌<◌, ℕ}
+use Prim.Native.Nat.{◌+◌, ◌<◌, ℕ}
 use Rattle.entering.specs.Entering.{Declares, Does, Enters, Leaves, Refuses, start_if_anew}
 use Rattle.words.proofs.Becoming.{becomes_as, becomes_then, desk-length, desk_then}
-use Rattle.words.specs.Words.{Becomes, DeskBecomes, Met, VehiclesBecome, section_in, start_in, start_on, with_clears, with_departure, with_guest, with_out, with_receipt}
+use Rattle.words.specs.Words.{Becomes, DeskBecomes, Met, VehiclesBecome, section_in, start_in, start_on, with_departure}
 use Rattle.working.proofs.laws.Reasons.{last_passes}
 use Rattle.working.proofs.laws.Scans.{first_passes, first_refuses}
 use Rattle.working.proofs.laws.Tests.{none_holds, none_of_both}
 use Rattle.working.specs.Acts as acts
 use Rattle.working.specs.Acts.{Act}
-use Rattle.working.specs.Effects.{Plan, brought_clears, effect_of, next_form, opened_clears, other_desk, own_desk, vehicle_for}
+use Rattle.working.specs.Effects.{Plan, effect_of, next_form, vehicle_for}
 use Rattle.working.specs.Events.{At, Begin, Event, Meet, Resume, Says, station_of}
 use Rattle.working.specs.Reasons.{begin_tests, find_of, last_tests, may_meet, open_tests, receive_tests, resume_tests, return_tests, station_tests, tests_of, train_tests}
 use Rattle.working.specs.Refusals.{Test, first_of}
@@ -18,10 +18,8 @@ use Rattle.working.specs.Sections.{count_refusal, desk_of, emptied, insert_at, n
 use Rattle.working.specs.Steps.{entered, met_at, plan_of, settled, unless_refused, whose_is}
 use Rattle.working.specs.declared.Answer.TheVariants.{Accepted}
 use Rattle.working.specs.declared.Answer.{Answer}
-use Rattle.working.specs.declared.Clears.{Clears}
 use Rattle.working.specs.declared.Desk.{Desk}
 use Rattle.working.specs.declared.Entry.{Entry}
-use Rattle.working.specs.declared.Movement.TheVariants.{LastTrain, Open, Return, Through, Train}
 use Rattle.working.specs.declared.Movement.{Movement}
 use Rattle.working.specs.declared.Refusal.TheVariants.{MayNotMeet, NotInForce}
 use Rattle.working.specs.declared.Refusal.{Refusal}
@@ -44,15 +42,6 @@ use native.Mathlib.Omega.{arith}
 -- a desk that became d, by another name
 pub desk_is : {w w₁ : List ℕ} (x : Station) {d e : Desk} → d ≡ e → Becomes w w₁ (with_desk (section_in w) x d) (start_in w) → Becomes w w₁ (with_desk (section_in w) x e) (start_in w)
 desk_is {w} x same b = becomes_as b (ap (with_desk (section_in w) x) same) refl
-
--- a desk that is left as it was
-pub desk_stays : {w : List ℕ} (x : Station) {d : Desk} → d ≡ desk_of (section_in w) x → Becomes w w (with_desk (section_in w) x d) (start_in w)
-desk_stays {w} x same =
-    becomes_as (record { section = refl; start = refl; own = λ few own. own }) (sym (ap (with_desk (section_in w) x) same ∙ by (section_in w) x)) refl
-  where
-    by : (s : Section) (x : Station) → with_desk s x (desk_of s x) ≡ s
-    by s A = refl
-    by s B = refl
 
 vehicles_desk : (s : Section) (l : List Vehicle) (x : Station) → desk_of (with_vehicles s l) x ≡ desk_of s x
 vehicles_desk s l A = refl
@@ -173,11 +162,6 @@ may_leave tests d time is allowed =
     let passes = last_passes d.sent d.last d.interval time (none_of_both tests last none).1 in
     (passes.unused, passes.room)
 
--- a vehicle is put in, and then the figures
-pub leaves : {w u w₁ : List ℕ} {x : Station} {time form sent : ℕ} {movement : Movement} {class : ℕ} {v : Vehicle} → v ≡ vehicle_for x form movement class
-    → VehiclesBecome w u (insert_at x v) (λ start. start_on x start 31) → DeskBecomes u w₁ x (with_departure time form sent) → Leaves w x time form sent movement class w₁
-leaves {u = u} is present desk = record { between = u; vehicle = rw (← is) present; figures = desk }
-
 -- it has left, and then the kind changes figures of its own
 module _ {w w₁ : List ℕ} {e : Entry} (l : Looked w e) {movement : Movement} {class : ℕ} (left : Leaves w l.at e.time (next_form l.desk) (l.desk.sent + 1) movement class w₁) where
   abbrev inserted : List Vehicle → List Vehicle
@@ -193,30 +177,6 @@ module _ {w w₁ : List ℕ} {e : Entry} (l : Looked w e) {movement : Movement} 
       → Becomes w w₂ (with_desk (with_vehicles (section_in w) (inserted (vehicles_of (section_in w)))) l.at (g (figures l.desk))) (start_on l.at (start_in w) 31)
   left_with g desk =
       vehicles_and_desk l.at inserted (λ start. start_on l.at start 31) (λ d. g (figures d)) l.desk_is left.vehicle (desk_then l.at figures g left.figures desk)
-
--- what a receipt puts, figure by figure, is the definition's desk, by whose vehicle it is and what it left on
-module _ {d e : Desk} {time : ℕ} {m : Movement} (was : d ≡ e) where
-  pub own_open : {asked sent : ℕ} → m ≡ Open asked → sent ≡ d.sent - 1 → with_out false (with_receipt time sent e) ≡ own_desk e time m
-  own_open left less = rw (left, less, was)
-
-  pub own_through : {sent : ℕ} → m ≡ Through → sent ≡ d.sent - 1 → with_receipt time sent e ≡ own_desk e time m
-  own_through left less = rw (left, less, was)
-
-  pub other_open : (class : ℕ) {asked : ℕ} {brought : Clears} → m ≡ Open asked → brought ≡ opened_clears d.clears asked
-      → with_clears brought (with_guest class (with_receipt time 0 e)) ≡ other_desk e time class m
-  other_open class left is = rw (left, is, was)
-
-  pub other_return : (class : ℕ) {asked granted : ℕ} {brought : Clears} → m ≡ Return asked granted → brought ≡ brought_clears d.clears asked d.clears.owes
-      → with_clears brought (with_out false (with_receipt time 0 e)) ≡ other_desk e time class m
-  other_return class left is = rw (left, is, was)
-
-  pub other_train : (class : ℕ) {asked granted owes : ℕ} {brought : Clears} → m ≡ Train asked granted → owes ≡ d.clears.owes - 1
-      → brought ≡ brought_clears d.clears asked owes → with_clears brought (with_receipt time 0 e) ≡ other_desk e time class m
-  other_train class left less is = rw (left, is, less, was)
-
-  pub other_last : (class : ℕ) {asked granted given_up : ℕ} {brought : Clears} → m ≡ LastTrain asked granted given_up → brought ≡ brought_clears d.clears asked 0
-      → with_clears brought (with_receipt time 0 e) ≡ other_desk e time class m
-  other_last class left is = rw (left, is, was)
 
 -- ---- BEGIN and RESUME: refused by the first of their tests that holds, or all is made anew, in force or not
 

@@ -6,7 +6,8 @@ use Prim.Native.Nat.{◌+◌, ◌≤◌, ℕ}
 use Rattle.double.proofs.Lines.{Made, first_rest, line_length, line_there, made_of, made-side, rising_next, rising_rest, side-made}
 use Rattle.double.specs.InOrder.{departed_by, received_by}
 use Rattle.double.specs.Sections.{emptied, fresh, line_of, side_of, with_clock, with_side}
-use Rattle.double.specs.Steps.{Begin, Decoded, Depart, Event, Receive, Resume, cleared, decode, decoded_as, departed, effect_of, is_first, on_decoded, refused, same_station, settled, step_of, tests_of}
+use Rattle.double.specs.Steps.{Begin, Decoded, Depart, Event, Receive, Resume}
+use Rattle.double.specs.Steps.{cleared, decode, decoded_as, departed, effect_of, is_first, on_decoded, refused, same_station, settled, step_of, tests_of}
 use Rattle.double.specs.WellMade.{made_tests, well_made}
 use Rattle.double.specs.declared.Section.{Section}
 use Rattle.double.specs.declared.Side.{Side}

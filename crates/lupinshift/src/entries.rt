@@ -73,8 +73,7 @@ fn put_read(fields: &mut [u16], read: Read) -> u32
 }
 
 // The first entry of the bytes into the fields: 0, or 23, fewer than ten numbers, or 1 to 4, which alter nothing. The numbers behind the tenth keep their values.
-#[unsafe(no_mangle)]
-pub extern "C" fn lupin_read_entry(entry: &[u8], fields: &mut [u16]) -> u32
+pub fn lupin_read_entry(entry: &[u8], fields: &mut [u16]) -> u32
     ensures { ReadsEntry entry.now fields.old result fields.new }
 {
     if fields.len() < FIELDS {
@@ -85,8 +84,7 @@ pub extern "C" fn lupin_read_entry(entry: &[u8], fields: &mut [u16]) -> u32
 
 // The entry that ten numbers say, at the front of the bytes: 0, or 23, fewer than ten numbers, or 2, 3, 4 or 23, as the writer gives them; these alter nothing. The bytes
 // behind it keep their values.
-#[unsafe(no_mangle)]
-pub extern "C" fn lupin_write_entry(fields: &[u16], entry: &mut [u8]) -> u32
+pub fn lupin_write_entry(fields: &[u16], entry: &mut [u8]) -> u32
     ensures { WritesEntry fields.now entry.old result entry.new }
 {
     if fields.len() < FIELDS {
@@ -97,8 +95,7 @@ pub extern "C" fn lupin_write_entry(fields: &[u16], entry: &mut [u8]) -> u32
 }
 
 // How many bytes an entry has that begins with this map.
-#[unsafe(no_mangle)]
-pub extern "C" fn lupin_entry_length(map: u8) -> usize
+pub fn lupin_entry_length(map: u8) -> usize
     ensures { result ≡ length_of map }
 {
     entry_len(map)

@@ -28,13 +28,18 @@ fn write_listing(out: &impl Print, log: &[u8], block: &mut [u8]) -> io::Result<(
     Ok(())
 }
 
-// Says what failed, and why, in the C library's words: std puts the error's number behind them.
+// An error's text in the C library's words alone: std puts its number behind them.
+fn words_of(text: &str) -> &str {
+    match text.split_once(" (os error ") {
+        Some((words, _)) => words,
+        None => text,
+    }
+}
+
+// Says what failed, and why.
 fn say(rt: &(impl Eprint + AllocGlobal), what: &str, why: io::Error) -> io::Result<()> {
     let text = why.to_string(rt.alloc())?;
-    let words = match text.split_once(" (os error ") {
-        Some((words, _)) => words,
-        None => &text,
-    };
+    let words = words_of(&text);
     eprintln!(rt; "lister: {what}: {words}")
 }
 

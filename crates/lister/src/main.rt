@@ -11,7 +11,21 @@ use input::Input;
 use reading::read_log;
 use std::env::{Env, FillError};
 use std::io;
+use std::io::{Error, ErrorKind};
 use words::fresh_words;
+
+// Writes all of a block. A write that fails, as where a signal comes first, or that takes nothing ends it.
+fn write_whole(out: &impl Print, block: &[u8]) -> io::Result<()> {
+    let mut done = 0usize;
+    while done < block.len() {
+        let count = out.write_some(&block[done..])?;
+        if count == 0 {
+            return Err(Error::from(ErrorKind::WriteZero));
+        }
+        done += count;
+    }
+    Ok(())
+}
 
 // Writes the listing of a log, a block at a time.
 fn write_listing(out: &impl Print, log: &[u8], block: &mut [u8]) -> io::Result<()>
@@ -22,7 +36,7 @@ fn write_listing(out: &impl Print, log: &[u8], block: &mut [u8]) -> io::Result<(
     while !listed.ended {
         let put = step::fill(&mut words, listed, log, block);
         let count = put.behind;
-        out.write_all(&block[..count])?;
+        write_whole(out, &block[..count])?;
         listed = put.listed;
     }
     Ok(())
@@ -37,7 +51,7 @@ fn words_of(text: &str) -> &str {
 }
 
 // Says what failed, and why.
-fn say(rt: &(impl Eprint + AllocGlobal), what: &str, why: io::Error) -> io::Result<()> {
+fn say(rt: &(impl Eprint + AllocGlobal), what: &str, why: Error) -> io::Result<()> {
     let text = why.to_string(rt.alloc())?;
     let words = words_of(&text);
     eprintln!(rt; "lister: {what}: {words}")

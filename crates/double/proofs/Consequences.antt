@@ -1,7 +1,7 @@
 -- What each clause of the theorem about every list says of lists that are written out, drawn from the theorem; and what the counts of a log are. A clause gives first a fact of
 -- every list, over figures that nothing computes, so that a weaker clause does not give it; then come lists in T-05's figures.
 -- Assumes nothing.
-use Prim.Native.Nat.{◌+◌, ◌≤◌, ℕ}
+use Prim.Native.Nat.{ℕ, ◌+◌, ◌≤◌}
 use Rattle.double.proofs.Computing.{step_computes, turns_compute}
 use Rattle.double.proofs.Counted.{logs_counted}
 use Rattle.double.proofs.Examples.{answers, order, todo, train, twelve}
@@ -32,7 +32,7 @@ use lib.Dec.{lit≤}
 use lib.ListN.{length}
 use mathlib.Core.Bool.{false, true}
 use mathlib.Core.List.{List, [], ◌++◌, ◌∷◌}
-use mathlib.Core.Path.{◌∙◌, ◌≡◌, ap₂, refl, sym}
+use mathlib.Core.Path.{ap₂, refl, sym, ◌∙◌, ◌≡◌}
 
 -- ---- each step has the answer and the section that T-05 fixes for it
 

@@ -11,7 +11,7 @@ use Rattle.double.specs.WellMade.{well_made}
 use Rattle.double.specs.declared.Section.{Section}
 use Rattle.double.specs.declared.Side.{Side}
 use Rattle.double.specs.declared.Stepped.{Stepped}
-use Rattle.working.proofs.laws.Counts.{counted_from, counted_for}
+use Rattle.working.proofs.laws.Counts.{counted_for, counted_from}
 use Rattle.working.proofs.laws.Scans.{scanned}
 use Rattle.working.proofs.laws.Turns.{entries_by}
 use Rattle.working.specs.Entries.{read_at}
@@ -27,7 +27,7 @@ use Rattle.working.specs.declared.Whose.{Whose}
 use lib.ListN.{drop}
 use mathlib.Core.Bool.{true}
 use mathlib.Core.List.{List}
-use mathlib.Core.Path.{◌∙◌, ◌≡◌, refl}
+use mathlib.Core.Path.{refl, ◌∙◌, ◌≡◌}
 use native.Mathlib.Omega.{arith}
 
 -- ---- one step

@@ -26,8 +26,8 @@ use Rattle.working.specs.declared.Speed.TheVariants.{Both}
 use Rattle.working.specs.declared.Station.TheVariants.{A, B}
 use lib.Dec.{ltb}
 use mathlib.Core.Bool.{Bool, false, true}
-use mathlib.Core.List.{List, [], ◌++◌, ◌∷◌, map}
-use mathlib.Core.Path.{◌≡◌, refl}
+use mathlib.Core.List.{List, [], map, ◌++◌, ◌∷◌}
+use mathlib.Core.Path.{refl, ◌≡◌}
 
 -- ---- which bytes are an entry
 

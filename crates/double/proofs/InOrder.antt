@@ -16,7 +16,7 @@ use Rattle.working.specs.declared.Station.TheVariants.{A, B}
 use Rattle.working.specs.declared.Station.{Station}
 use mathlib.Core.Bool.{true}
 use mathlib.Core.List.{List, [], ◌++◌}
-use mathlib.Core.Path.{◌≡◌, refl}
+use mathlib.Core.Path.{refl, ◌≡◌}
 
 -- what a step of a list keeps
 step_kept : (s t : Section) (d : Done) → StepBy d.form s d.bytes d.answer t → well_made s ≡ true

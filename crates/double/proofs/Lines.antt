@@ -1,7 +1,7 @@
 -- A line of form numbers in twelve places: what is put there is what is read, and it stays rising as trains are sent and received.
 -- A side that is well made is one of which five facts hold, and they hold of a side with such a line.
 -- Assumes nothing.
-use Prim.Native.Nat.{◌+◌, ◌<◌, ◌≤◌, suc, zero, ℕ}
+use Prim.Native.Nat.{suc, zero, ℕ, ◌+◌, ◌<◌, ◌≤◌}
 use Rattle.double.specs.Sections.{line_of, side}
 use Rattle.double.specs.Steps.{is_first}
 use Rattle.double.specs.WellMade.{rising, side_made, side_tests}
@@ -15,9 +15,9 @@ use Rattle.working.specs.declared.Interval.{Interval}
 use borrow.Author.Tests.{eqb-true, le-leb, leb-true, lt-ltb, ltb-true}
 use lib.Dec.{leb, ltb}
 use lib.ListN.{drop, length, take}
-use mathlib.Core.Bool.{◌&&◌, false≢true, true}
+use mathlib.Core.Bool.{false≢true, true, ◌&&◌}
 use mathlib.Core.List.{List, [], ◌++◌, ◌∷◌}
-use mathlib.Core.Path.{◌≡◌, ap, refl}
+use mathlib.Core.Path.{ap, refl, ◌≡◌}
 use native.Mathlib.Omega.{arith}
 
 -- ---- the places

@@ -14,7 +14,7 @@ use Rattle.working.specs.Turns.{own_bytes, section_after, turn_in, turns_of}
 use Rattle.working.specs.declared.Answer.{Answer}
 use lib.ListN.{drop, length}
 use mathlib.Core.List.{List, map}
-use mathlib.Core.Path.{◌≡◌, refl}
+use mathlib.Core.Path.{refl, ◌≡◌}
 
 -- what a step did, whatever its form; and each form says it
 pub step_did : (f : StepForm) (s : Section) (bytes : List ℕ) (a : Answer) (t : Section) → StepBy f s bytes a t → record { answer = a; section = t } ≡ step_of s bytes

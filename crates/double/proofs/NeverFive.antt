@@ -21,7 +21,7 @@ use Rattle.working.specs.declared.Verdict.TheVariants.{Allowed, Refused}
 use Rattle.working.specs.declared.Verdict.{Verdict}
 use mathlib.Core.Bool.{true}
 use mathlib.Core.List.{List, ◌++◌, ◌∷◌}
-use mathlib.Core.Path.{◌≡◌, ap, refl}
+use mathlib.Core.Path.{ap, refl, ◌≡◌}
 
 fine_says : (s : Section) (e : Event) → none_is 5 (tests_of s e) ≡ true → Fine (effect_of s e).answer → Fine (on_decoded s (Says e)).answer
 fine_says s e none fine = by (first_of (tests_of s e)) (first_is_not 5 (tests_of s e) none)

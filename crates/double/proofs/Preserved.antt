@@ -2,8 +2,8 @@
 -- before. At a station's side a departure adds its number behind both halves of the equation, a receipt moves the line's first to the receipts, BEGIN empties all three,
 -- RESUME finds the line empty, and every other step leaves the three as they were.
 -- Assumes nothing.
-use Prim.Native.Nat.{◌+◌, ◌≤◌, ℕ}
-use Rattle.double.proofs.Lines.{Made, first_rest, line_length, line_there, made_of, made-side, rising_next, rising_rest, side-made}
+use Prim.Native.Nat.{ℕ, ◌+◌, ◌≤◌}
+use Rattle.double.proofs.Lines.{Made, first_rest, line_length, line_there, made-side, made_of, rising_next, rising_rest, side-made}
 use Rattle.double.specs.InOrder.{departed_by, received_by}
 use Rattle.double.specs.Sections.{emptied, fresh, line_of, side_of, with_clock, with_side}
 use Rattle.double.specs.Steps.{Begin, Decoded, Depart, Event, Receive, Resume}
@@ -27,9 +27,9 @@ use Rattle.working.specs.declared.Station.TheVariants.{A, B}
 use Rattle.working.specs.declared.Station.{Station}
 use borrow.Author.Tests.{le-leb, leb-true, ltb-false, not-false}
 use lib.ListN.{drop, length, length-append, length-drop}
-use mathlib.Core.Bool.{◌&&◌, false, true}
-use mathlib.Core.List.{List, [], ◌++◌, ◌∷◌, append_assoc}
-use mathlib.Core.Path.{◌∙◌, ◌≡◌, ap, refl, sym}
+use mathlib.Core.Bool.{false, true, ◌&&◌}
+use mathlib.Core.List.{List, [], append_assoc, ◌++◌, ◌∷◌}
+use mathlib.Core.Path.{ap, refl, sym, ◌∙◌, ◌≡◌}
 use native.Mathlib.Omega.{arith}
 
 -- ---- a side, with its line

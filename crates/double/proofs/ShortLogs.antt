@@ -9,7 +9,7 @@ use Rattle.working.specs.declared.Answer.TheVariants.{Accepted, Refused}
 use Rattle.working.specs.declared.Refusal.TheVariants.{AlreadyInForce, BeforeClock, EndsInside, IntervalRunning, NotInForce, NotNearest}
 use Rattle.working.specs.declared.Speed.TheVariants.{Both, NoSpeed}
 use mathlib.Core.List.{List, [], ◌∷◌}
-use mathlib.Core.Path.{◌≡◌, refl}
+use mathlib.Core.Path.{refl, ◌≡◌}
 
 abbrev log_3 : List ℕ
 log_3 =

@@ -1,8 +1,8 @@
 -- Document 02, T-01, of a double line's log: "three counts: entries refused for A, for B, and those of no station", by the turns of the log.
-use Rattle.std.specs.Prelude.{◌+◌, ◌≤◌, ℕ, length, Bool, ◌&&◌, not, List, ◌≡◌}
 use Rattle.double.specs.Sections.{fresh}
 use Rattle.double.specs.Steps.{decoded_as, double, whose_is}
 use Rattle.double.specs.declared.Section.{Section}
+use Rattle.std.specs.Prelude.{Bool, List, length, not, ℕ, ◌&&◌, ◌+◌, ◌≡◌, ◌≤◌}
 use Rattle.working.specs.Sections.{count_of, is_same, total}
 use Rattle.working.specs.Turns.{Turn, accepted_in, entries_in, how_many, is_accepted, section_after, turns_of}
 use Rattle.working.specs.declared.Whose.{Whose}

@@ -1,10 +1,10 @@
 -- Document 02, T-05: "In every list from fresh a station's accepted receipts since the last accepted BEGIN name the other's first departures since, in order, and its line
 -- holds the rest; this stands there in place of demand 3." Departures and receipts go by the bytes of the list and its answers, not by the section.
-use Rattle.std.specs.Prelude.{ℕ, cond, List, [], ◌++◌, ◌∷◌, ◌≡◌}
 use Rattle.double.specs.Runs.{Run, results, results_of}
 use Rattle.double.specs.Sections.{fresh, line_of, side_of}
 use Rattle.double.specs.Steps.{Begin, Decoded, Depart, Event, Receive, Resume, decode, same_station}
 use Rattle.double.specs.declared.Section.{Section}
+use Rattle.std.specs.Prelude.{List, [], cond, ℕ, ◌++◌, ◌∷◌, ◌≡◌}
 use Rattle.working.specs.Events.{Bad, Says}
 use Rattle.working.specs.Runs.{Done}
 use Rattle.working.specs.Sections.{other_at}

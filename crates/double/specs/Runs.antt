@@ -1,8 +1,8 @@
 -- Lists of steps on one double line section, in either form.
-use Rattle.std.specs.Prelude.{ℕ, List, ◌≡◌}
 use Rattle.double.specs.Steps.{step_of}
 use Rattle.double.specs.declared.Section.{Section}
 use Rattle.double.specs.declared.Stepped.{Stepped}
+use Rattle.std.specs.Prelude.{List, ℕ, ◌≡◌}
 use Rattle.working.specs.Runs.{Done, RunBy, StepForm, by_value, in_place, results_over, results_with}
 use Rattle.working.specs.declared.Answer.{Answer}
 

@@ -1,7 +1,7 @@
 -- Document 02, T-05: the section of a double line, its two sides, and the fresh section.
-use Rattle.std.specs.Prelude.{ℕ, length, take, Bool, false, List, []}
 use Rattle.double.specs.declared.Section.{Section}
 use Rattle.double.specs.declared.Side.{Side}
+use Rattle.std.specs.Prelude.{Bool, List, [], false, length, take, ℕ}
 use Rattle.working.specs.Sections.{none_refused, one_more_of, pad_with}
 use Rattle.working.specs.declared.Counts.{Counts}
 use Rattle.working.specs.declared.Interval.TheVariants.{Stopped}

@@ -1,11 +1,11 @@
 -- Document 02, T-05: what an entry of a double line says, what it is refused for, in rising order, what it does where it is accepted, and the step on a section and
 -- bytes. S is the entry's station, O the other.
-use Rattle.std.specs.Prelude.{◌+◌, ℕ, eqb, drop, Bool, ◌&&◌, cond, false, not, true, List, [], ◌++◌, ◌∷◌}
 use Rattle.double.specs.Sections.{count_refusal, emptied, line_of, side, side_of, with_clock, with_line, with_side}
 use Rattle.double.specs.WellMade.{well_made}
 use Rattle.double.specs.declared.Section.{Section}
 use Rattle.double.specs.declared.Side.{Side}
 use Rattle.double.specs.declared.Stepped.{Stepped}
+use Rattle.std.specs.Prelude.{Bool, List, [], cond, drop, eqb, false, not, true, ℕ, ◌&&◌, ◌++◌, ◌+◌, ◌∷◌}
 use Rattle.working.specs.Entries.{read_at}
 use Rattle.working.specs.Events.{Bad, Said, Says, said_as, station_of}
 use Rattle.working.specs.Reasons.{begin_tests, last_tests, resume_tests, station_tests}

@@ -1,8 +1,8 @@
 -- Document 02, T-05: when a section is well made; "else it is well made as in 01".
-use Rattle.std.specs.Prelude.{ℕ, leb, ltb, drop, Bool, ◌&&◌, ◌||◌, true, List, [], ◌∷◌}
 use Rattle.double.specs.Sections.{line_of}
 use Rattle.double.specs.declared.Section.{Section}
 use Rattle.double.specs.declared.Side.{Side}
+use Rattle.std.specs.Prelude.{Bool, List, [], drop, leb, ltb, true, ℕ, ◌&&◌, ◌||◌, ◌∷◌}
 use Rattle.working.specs.Entries.{every}
 use Rattle.working.specs.WellMade.{interval_number, not_later, zero_tests}
 

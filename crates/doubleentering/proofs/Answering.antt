@@ -1,6 +1,6 @@
 -- What an entry is answered, and the section that the words then stand for: by what its tests come to it is refused, and counted, or has its effect.
 -- Assumes nothing.
-use Prim.Native.Nat.{◌+◌, ℕ}
+use Prim.Native.Nat.{ℕ, ◌+◌}
 use Rattle.double.specs.Sections.{emptied, line_of, side, side_of, with_clock, with_side}
 use Rattle.double.specs.Steps.{Depart, Event, Receive, accepted, cleared, effect_of, is_first, same_station, settled, tests_of, whose_is}
 use Rattle.double.specs.declared.Section as double
@@ -31,9 +31,9 @@ use Rattle.working.specs.declared.Station.{Station}
 use Rattle.working.specs.declared.Verdict.TheVariants.{Allowed, Refused}
 use Rattle.working.specs.declared.Verdict.{Verdict}
 use Rattle.working.specs.declared.Whose.TheVariants.{NoStation, Of}
-use mathlib.Core.Bool.{Bool, ◌&&◌, false, not, true}
+use mathlib.Core.Bool.{Bool, false, not, true, ◌&&◌}
 use mathlib.Core.List.{List, [], ◌++◌, ◌∷◌}
-use mathlib.Core.Path.{◌∙◌, ◌≡◌, ap, ap₂, refl, subst, sym}
+use mathlib.Core.Path.{ap, ap₂, refl, subst, sym, ◌∙◌, ◌≡◌}
 
 -- ---- by what the tests come to
 

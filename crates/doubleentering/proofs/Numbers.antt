@@ -1,7 +1,7 @@
 -- The numbers in a station's twelve places: each is read off the word of its place, and a word stored there alters that number alone. And the line that they hold: the
 -- first of them, as many as are on it, with one more behind them or without the first.
 -- Assumes nothing.
-use Prim.Native.Nat.{◌%◌, ◌+◌, ◌-◌, ◌<◌, ◌≤◌, min, suc, zero, ℕ}
+use Prim.Native.Nat.{min, suc, zero, ℕ, ◌%◌, ◌+◌, ◌-◌, ◌<◌, ◌≤◌}
 use Rattle.double.specs.Steps.{is_first}
 use Rattle.doubleentering.specs.DoubleWords.{PlacesBecome, moved_up, places_from, places_in}
 use Rattle.section.proofs.Passes.{take_present}
@@ -11,11 +11,11 @@ use Rattle.working.specs.declared.Station.TheVariants.{A, B}
 use Rattle.working.specs.declared.Station.{Station}
 use borrow.Author.Tests.{lt-ltb}
 use lib.Dec.{eqb, ltb}
-use lib.ListN.{get_or-map, drop, get_or, length, length-drop, length-map, length-set, length-take, replicate, set, take}
-use lib.Seq.{drop-set-add, drop-set-lt, get_or-append-add, get_or-drop, get_or-take, length-take-le, take_all, take-append-le, take-set-le, take-set-lt, take-suc-set}
+use lib.ListN.{drop, get_or, get_or-map, length, length-drop, length-map, length-set, length-take, replicate, set, take}
+use lib.Seq.{drop-set-add, drop-set-lt, get_or-append-add, get_or-drop, get_or-take, length-take-le, take-append-le, take-set-le, take-set-lt, take-suc-set, take_all}
 use mathlib.Core.Bool.{◌&&◌}
-use mathlib.Core.List.{List, [], ◌++◌, ◌∷◌, map}
-use mathlib.Core.Path.{◌∙◌, ◌≡◌, ap, refl, sym}
+use mathlib.Core.List.{List, [], map, ◌++◌, ◌∷◌}
+use mathlib.Core.Path.{ap, refl, sym, ◌∙◌, ◌≡◌}
 use native.Mathlib.Numerals.{add-one}
 use native.Mathlib.Omega.{arith}
 

@@ -1,7 +1,7 @@
 -- What words stand for is told by the figures that they share with a single line's section, and by the numbers in the places of the two stations. So a change of a
 -- station's desk, of its places, or of the one and then the other, is a change of its side alone.
 -- Assumes nothing.
-use Prim.Native.Nat.{◌+◌, ◌-◌, ◌<◌, min, ℕ}
+use Prim.Native.Nat.{min, ℕ, ◌+◌, ◌-◌, ◌<◌}
 use Rattle.double.specs.Sections.{count_refusal, emptied, line_of, side, side_of, with_clock, with_side}
 use Rattle.double.specs.Steps.{cleared}
 use Rattle.double.specs.declared.Section as double
@@ -27,7 +27,7 @@ use lib.ListN.{drop, length, length-append, length-drop, length-take, set, take,
 use lib.Seq.{length-take-le}
 use mathlib.Core.Bool.{Bool}
 use mathlib.Core.List.{List, [], ◌++◌, ◌∷◌}
-use mathlib.Core.Path.{◌∙◌, ◌≡◌, ap, ap₂, refl, sym}
+use mathlib.Core.Path.{ap, ap₂, refl, sym, ◌∙◌, ◌≡◌}
 use native.Mathlib.Omega.{arith}
 
 -- ---- by the figures and the places

@@ -6,11 +6,11 @@
 --   the ring's  | A's twelve places of form numbers, then B's
 --
 -- All other words are passed by.
-use Rattle.std.specs.Prelude.{◌%◌, ℕ, eqb, drop, get_or, length, take, List, ◌++◌, map, ◌≡◌}
 use Rattle.double.specs.Sections.{line_of, side_of, with_side}
 use Rattle.double.specs.Steps.{Decoded, Event, on_decoded}
 use Rattle.double.specs.declared.Section.{Section}
 use Rattle.double.specs.declared.Side.{Side}
+use Rattle.std.specs.Prelude.{List, drop, eqb, get_or, length, map, take, ℕ, ◌%◌, ◌++◌, ◌≡◌}
 use Rattle.words.specs.Words.{counts_in, desk_in, ring_from, ring_in, word_count}
 use Rattle.working.specs.Events.{Says}
 use Rattle.working.specs.Sections.{other_at, pad_with}

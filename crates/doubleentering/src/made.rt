@@ -1,6 +1,6 @@
 // The test that a double line section is well made: each line's numbers and unused places in a pass of their own, then the figures.
-ghost use Rattle.std.specs.Prelude.{◌≤◌, drop, take, ◌≡◌};
 ghost use Rattle.double.specs.WellMade.{is_fresh_side, rising, side_made, well_made};
+ghost use Rattle.std.specs.Prelude.{drop, take, ◌≡◌, ◌≤◌};
 ghost use Rattle.working.specs.Entries.{every};
 ghost use Rattle.working.specs.WellMade.{zero_tests};
 

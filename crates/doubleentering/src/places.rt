@@ -1,8 +1,8 @@
 // The two lines in words: who is on them, a train that leaves, and one that arrives.
-ghost use Rattle.std.specs.Prelude.{◌+◌, ◌-◌, ◌<◌, ◌≤◌, min, [], ◌++◌, ◌∷◌, ◌≡◌};
 ghost use Rattle.double.specs.Sections.{line_of, side, side_of};
 ghost use Rattle.double.specs.Steps.{cleared, is_first};
 ghost use Rattle.doubleentering.specs.DoubleWords.{PlacesBecome, SideBecomes, double_in, moved_up, places_from};
+ghost use Rattle.std.specs.Prelude.{[], min, ◌++◌, ◌+◌, ◌-◌, ◌<◌, ◌∷◌, ◌≡◌, ◌≤◌};
 ghost use Rattle.words.specs.Words.{ring_from, section_in, word_count};
 ghost use Rattle.working.specs.Sections.{desk_of};
 ghost use Rattle.working.specs.declared.Interval.TheVariants.{Since};

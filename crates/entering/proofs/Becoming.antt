@@ -1,7 +1,7 @@
 -- How the words of a section become those of the section after an entry: what its tests come to decides whether it is refused or carried out, and the changes of the
 -- vehicles present and of a desk, one after another, are those of the definition.
 -- Assumes nothing.
-use Prim.Native.Nat.{◌+◌, ◌<◌, ℕ}
+use Prim.Native.Nat.{ℕ, ◌+◌, ◌<◌}
 use Rattle.entering.specs.Entering.{Declares, Does, Enters, Leaves, Refuses, start_if_anew}
 use Rattle.words.proofs.Becoming.{becomes_as, becomes_then, desk-length, desk_then}
 use Rattle.words.specs.Words.{Becomes, DeskBecomes, Met, VehiclesBecome, section_in, start_in, start_on, with_departure}
@@ -34,7 +34,7 @@ use Rattle.working.specs.declared.Whose.TheVariants.{NoStation, Of}
 use Rattle.working.specs.declared.Whose.{Whose}
 use mathlib.Core.Bool.{Bool, false, not, true}
 use mathlib.Core.List.{List, [], ◌++◌, ◌∷◌}
-use mathlib.Core.Path.{◌∙◌, ◌≡◌, ap, ap₂, refl, subst, sym}
+use mathlib.Core.Path.{ap, ap₂, refl, subst, sym, ◌∙◌, ◌≡◌}
 use native.Mathlib.Omega.{arith}
 
 -- ---- a desk, and the vehicles before it

@@ -1,5 +1,5 @@
 -- What a function on a section in lent words answers and leaves, by the step that it takes; and where the ring then starts.
-use Rattle.std.specs.Prelude.{ℕ, Bool, List, ◌≡◌}
+use Rattle.std.specs.Prelude.{Bool, List, ℕ, ◌≡◌}
 use Rattle.words.specs.Words.{Becomes, DeskBecomes, OwnWords, RingKept, VehiclesBecome, section_in, start_in, start_on, with_departure}
 use Rattle.working.specs.Effects.{Arrive, Depart, Plan, Refuse, vehicle_for}
 use Rattle.working.specs.Events.{At, Bad, Begin, Decoded, Event, Meet, Resume, Says}

@@ -1,8 +1,8 @@
 // What every kind may end in, of a single line and of a double line: a refusal, or an answer with no form; and what BEGIN and RESUME come to.
 ghost use Rattle.entering.specs.Entering.{Declares, Refuses};
+ghost use Rattle.std.specs.Prelude.{◌≡◌};
 ghost use Rattle.working.specs.declared.Answer.TheVariants.{Accepted};
 ghost use Rattle.working.specs.declared.Speed.TheVariants.{NoSpeed};
-ghost use Rattle.std.specs.Prelude.{◌≡◌};
 
 use words::{Words, count_refusal, empty};
 use working::{Answer, Refusal, Speed, Verdict, Whose};

@@ -1,6 +1,6 @@
 // The number of an entry's view read as a view.
-ghost use Rattle.working.specs.Events.{view_of};
 ghost use Rattle.std.specs.Prelude.{◌≡◌};
+ghost use Rattle.working.specs.Events.{view_of};
 
 use working::View;
 

@@ -1,5 +1,6 @@
 // RECEIVE: a vehicle is received at the station's end, and the figures change by whose it is and what it left on; then by the reply that it brings, and by what waits.
 ghost use Rattle.entering.specs.Entering.{Enters};
+ghost use Rattle.std.specs.Prelude.{true, ◌≡◌};
 ghost use Rattle.words.specs.Words.{DeskBecomes, section_in};
 ghost use Rattle.working.specs.Acts as acts;
 ghost use Rattle.working.specs.Effects.{arrive_desk, other_desk, own_desk, receipt_desk, replied};
@@ -7,7 +8,6 @@ ghost use Rattle.working.specs.Events.{At, station_of};
 ghost use Rattle.working.specs.Reasons.{may_enter};
 ghost use Rattle.working.specs.Sections.{desk_of};
 ghost use Rattle.working.specs.WellMade.{is_open_or_through};
-ghost use Rattle.std.specs.Prelude.{true, ◌≡◌};
 
 use crate::answers::{accepted, refuse};
 use rules::{

@@ -1,11 +1,11 @@
 -- Places of the same size, one behind another, read one by one, are all of them. Assumes nothing.
-use Prim.Native.Nat.{◌*◌, ◌+◌, ◌<◌, suc, zero, ℕ}
+use Prim.Native.Nat.{suc, zero, ℕ, ◌*◌, ◌+◌, ◌<◌}
 use Rattle.figures.specs.Figures.{each_at}
 use borrow.Author.Count.{below_more}
 use lib.ListN.{get_or, length, set}
 use lib.Seq.{ext_get_or, get_or-set_other, get_or-set_same}
 use mathlib.Core.List.{List}
-use mathlib.Core.Path.{◌∙◌, ◌≡◌, ap, refl, sym}
+use mathlib.Core.Path.{ap, refl, sym, ◌∙◌, ◌≡◌}
 use native.Mathlib.Nat.{suc-mul}
 use native.Mathlib.Omega.{arith}
 

@@ -1,8 +1,8 @@
 -- docs/CASES.md: what the figures of a double line's section say.
-use Rattle.std.specs.Prelude.{◌+◌, ℕ, eqb, List}
 use Rattle.double.specs.declared.Section.{Section}
 use Rattle.double.specs.declared.Side.{Side}
 use Rattle.figures.specs.Figures.{counts_at, each_at}
+use Rattle.std.specs.Prelude.{List, eqb, ℕ, ◌+◌}
 use Rattle.working.specs.Positions.{byte_at, interval_of, two_at}
 
 -- "the twelve places 2 each"

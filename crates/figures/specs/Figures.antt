@@ -1,5 +1,5 @@
 -- docs/CASES.md: what the figures of a section say, and those of an entry. A vehicle, a desk and the counts have the bytes of a position.
-use Rattle.std.specs.Prelude.{◌+◌, suc, zero, ℕ, eqb, drop, take, List, [], ◌∷◌}
+use Rattle.std.specs.Prelude.{List, [], drop, eqb, suc, take, zero, ℕ, ◌+◌, ◌∷◌}
 use Rattle.working.specs.Positions.{byte_at, counts_in, desk_in, two_at, vehicle_in}
 use Rattle.working.specs.declared.Counts.{Counts}
 use Rattle.working.specs.declared.Desk.{Desk}

@@ -1,6 +1,6 @@
 -- docs/CASES.md: the bytes that a section's figures are written as, and bytes put at a place. A vehicle, a desk and the counts have the bytes of a position.
-use Rattle.std.specs.Prelude.{◌%◌, ◌*◌, ◌+◌, suc, zero, ℕ, leb, get_or, length, replicate, cond, List, [], ◌∷◌}
 use Rattle.figures.specs.Figures.{section_length}
+use Rattle.std.specs.Prelude.{List, [], cond, get_or, leb, length, replicate, suc, zero, ℕ, ◌%◌, ◌*◌, ◌+◌, ◌∷◌}
 use Rattle.working.specs.Entries.{pasted}
 use Rattle.working.specs.Positions.{counts_bytes, desk_bytes, vehicle_bytes}
 use Rattle.working.specs.Sections.{unused}

@@ -1,7 +1,7 @@
 // A double line's section in figures: the bytes of docs/CASES.md, at the front of a case's head.
-ghost use Rattle.std.specs.Prelude.{◌+◌, ◌≤◌, ◌≡◌};
 ghost use Rattle.figures.specs.Doubles.{double_in, numbers_at, side_at};
 ghost use Rattle.figures.specs.Figures.{longest_head};
+ghost use Rattle.std.specs.Prelude.{◌+◌, ◌≡◌, ◌≤◌};
 
 use crate::heads::{Head, number_at};
 use crate::sections::counts_at;

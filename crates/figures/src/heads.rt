@@ -1,6 +1,6 @@
 // The head of a case: the bytes before its log, its bytes or its buffer.
-ghost use Rattle.working.specs.Positions.{two_at};
 ghost use Rattle.std.specs.Prelude.{◌≡◌};
+ghost use Rattle.working.specs.Positions.{two_at};
 
 use position::two;
 

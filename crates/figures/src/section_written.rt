@@ -1,8 +1,8 @@
 // A single line's section as the bytes of docs/CASES.md, well made or not.
 ghost use Rattle.figures.specs.Written.{case_bytes, put_places, vehicle_figures};
+ghost use Rattle.std.specs.Prelude.{◌≡◌};
 ghost use Rattle.working.specs.Positions.{vehicle_bytes};
 ghost use Rattle.working.specs.WellMade.{is_blank};
-ghost use Rattle.std.specs.Prelude.{◌≡◌};
 
 use crate::heads::SECTION_LENGTH;
 use crate::sections::{DESK_A, DESK_B, PRESENT, REFUSED};

@@ -1,6 +1,6 @@
 // A section and an entry in figures: the bytes of docs/CASES.md, at the front of a case's head.
-ghost use Rattle.std.specs.Prelude.{◌+◌, ◌≤◌, ◌≡◌};
 ghost use Rattle.figures.specs.Figures.{counts_at, desk_at, entry_in, longest_head, places_in, section_in, vehicle_at};
+ghost use Rattle.std.specs.Prelude.{◌+◌, ◌≡◌, ◌≤◌};
 
 use crate::heads::{Head, number_at};
 use position::{COUNTS, DESK, PLACE, counts_in, desk_in, vehicle_in};

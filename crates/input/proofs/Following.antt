@@ -1,6 +1,6 @@
 -- What follows a read that brought no more than there was room for: what was read lies within the room, and where reading goes on, less is left to read or to allow.
 -- Assumes nothing.
-use Prim.Native.Nat.{◌+◌, ◌-◌, ◌<◌, ◌≤◌, ℕ}
+use Prim.Native.Nat.{ℕ, ◌+◌, ◌-◌, ◌<◌, ◌≤◌}
 use Rattle.input.specs.Reading.{Within, behind_read, came_by}
 use Rattle.input.specs.declared.Came.TheVariants.{Bytes, Failed, Interrupted}
 use Rattle.input.specs.declared.Came.{Came}
@@ -10,7 +10,7 @@ use borrow.Author.Tests.{eqb-false}
 use lib.Dec.{eqb}
 use lib.IntN.{negsuc, pos, ℤ}
 use mathlib.Core.Bool.{Bool, cond, false, true}
-use mathlib.Core.Path.{◌≡◌, refl}
+use mathlib.Core.Path.{refl, ◌≡◌}
 use native.Mathlib.Omega.{arith}
 
 -- what C's answer counts lies within the memory lent

@@ -1,5 +1,4 @@
 -- What a read comes to, and what follows it.
-use Rattle.std.specs.Prelude.{◌+◌, ◌-◌, ◌≤◌, ℕ, eqb, negsuc, pos, ℤ, Bool, cond}
 use Rattle.input.specs.declared.Came.TheVariants.{Bytes, Failed, Interrupted}
 use Rattle.input.specs.declared.Came.{Came}
 use Rattle.input.specs.declared.Input.TheVariants as input
@@ -7,6 +6,7 @@ use Rattle.input.specs.declared.Input.{Input}
 use Rattle.input.specs.declared.Reading.TheVariants as reading
 use Rattle.input.specs.declared.Reading.{Reading}
 use Rattle.listing.specs.LineText.{longest_log}
+use Rattle.std.specs.Prelude.{Bool, cond, eqb, negsuc, pos, ℕ, ℤ, ◌+◌, ◌-◌, ◌≤◌}
 
 -- "the lister takes at most 65,536 bytes": a byte more tells a longer log
 abbrev pub most_read : ℕ

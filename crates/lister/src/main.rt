@@ -4,8 +4,8 @@
 
 mod reading;
 
-ghost use Rattle.std.specs.Prelude.{◌≤◌, length};
 ghost use Rattle.listing.specs.LineText.{longest_line};
+ghost use Rattle.std.specs.Prelude.{length, ◌≤◌};
 
 use input::Input;
 use reading::read_log;

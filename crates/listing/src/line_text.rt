@@ -1,7 +1,7 @@
 // The lines of a listing.
-ghost use Rattle.std.specs.Prelude.{◌*◌, ◌+◌, ◌≤◌, length, ◌≡◌};
 ghost use Rattle.listing.specs.LineText.{PutsLine, answer_text, both_text, end_figures, end_line, last_line, letter_at, line_text, longest_line, room_for_line, speed_text};
 ghost use Rattle.listing.specs.Text.{Puts, longest_field};
+ghost use Rattle.std.specs.Prelude.{length, ◌*◌, ◌+◌, ◌≡◌, ◌≤◌};
 
 use crate::text::{LONGEST_FIELD, put, put_bytes, put_field, put_number};
 use working::{Answer, Clears, Counts, Speed};

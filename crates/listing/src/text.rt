@@ -1,6 +1,6 @@
 // Text put into a block: bytes and decimal numbers, one behind the other.
-ghost use Rattle.std.specs.Prelude.{◌%◌, ◌*◌, ◌+◌, ◌<◌, ◌^◌, ◌≤◌, length, [], ◌∷◌, ◌≡◌};
 ghost use Rattle.listing.specs.Text.{Puts, decimal, digit_at, field, longest_field, longest_number};
+ghost use Rattle.std.specs.Prelude.{[], length, ◌%◌, ◌*◌, ◌+◌, ◌<◌, ◌^◌, ◌∷◌, ◌≡◌, ◌≤◌};
 
 // A blank and a number, the longest of which has 20 digits.
 pub(crate) const LONGEST_FIELD: usize = 21;

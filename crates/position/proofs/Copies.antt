@@ -1,15 +1,15 @@
 -- Two slices compared byte by byte, and bytes put behind others.
 -- Assumes nothing.
-use Prim.Native.Nat.{◌+◌, ◌<◌, ◌≤◌, suc, zero, ℕ}
+use Prim.Native.Nat.{suc, zero, ℕ, ◌+◌, ◌<◌, ◌≤◌}
 use Rattle.working.proofs.theorems.Positions.{read_then_written, same_bytes_lem}
 use Rattle.working.specs.Entries.{pasted}
 use Rattle.working.specs.Positions.{is_position, same_bytes}
 use lib.Dec.{eqb}
 use lib.ListN.{drop, drop_of_length-le, get_or, length, take}
 use lib.Seq.{drop-append-add, drop-cons, take-append-add}
-use mathlib.Core.Bool.{Bool, ◌&&◌, and_assoc, and-true, false, true}
-use mathlib.Core.List.{List, [], ◌++◌, ◌∷◌, append_assoc}
-use mathlib.Core.Path.{◌∙◌, ◌≡◌, ap, refl}
+use mathlib.Core.Bool.{Bool, and-true, and_assoc, false, true, ◌&&◌}
+use mathlib.Core.List.{List, [], append_assoc, ◌++◌, ◌∷◌}
+use mathlib.Core.Path.{ap, refl, ◌∙◌, ◌≡◌}
 use native.Mathlib.Nat.{add_assoc}
 use native.Mathlib.Numerals.{add-one}
 use native.Mathlib.Omega.{arith}

@@ -1,6 +1,6 @@
 -- The places of a position: how many begin with a kind, which vehicle each says, and a vehicle put behind those that are there.
 -- Assumes nothing.
-use Prim.Native.Nat.{◌*◌, ◌+◌, ◌-◌, ◌<◌, ◌≤◌, suc, zero, ℕ}
+use Prim.Native.Nat.{suc, zero, ℕ, ◌*◌, ◌+◌, ◌-◌, ◌<◌, ◌≤◌}
 use Rattle.position.proofs.Copies.{paste_behind}
 use Rattle.working.proofs.invariant.Made.{vehicles_with}
 use Rattle.working.specs.Entries.{pasted}
@@ -14,8 +14,8 @@ use lib.Dec.{eqb}
 use lib.ListN.{drop, get_or, length, replicate, set, take}
 use lib.Seq.{drop-drop, get_or-drop, length-take-le, set_at, take-suc}
 use mathlib.Core.Bool.{Bool, cond, false, true}
-use mathlib.Core.List.{List, [], ◌++◌, ◌∷◌, append_assoc}
-use mathlib.Core.Path.{◌∙◌, ◌≡◌, ap, refl, sym}
+use mathlib.Core.List.{List, [], append_assoc, ◌++◌, ◌∷◌}
+use mathlib.Core.Path.{ap, refl, sym, ◌∙◌, ◌≡◌}
 use native.Mathlib.Nat.{add-zero, zero-add}
 use native.Mathlib.Numerals.{add-one}
 use native.Mathlib.Omega.{arith}

@@ -1,5 +1,5 @@
 -- What is read off bytes that should be a position.
-use Rattle.std.specs.Prelude.{ℕ, eqb, length, Bool, cond, true, List, ◌≡◌}
+use Rattle.std.specs.Prelude.{Bool, List, cond, eqb, length, true, ℕ, ◌≡◌}
 use Rattle.words.specs.Words.{section_in, words_of}
 use Rattle.working.specs.Positions.{is_position, section_at}
 

@@ -1,6 +1,6 @@
 // The counts and a desk as bytes.
-ghost use Rattle.working.specs.Positions.{counts_bytes, counts_in, desk_bytes, desk_in, interval_bytes, interval_of};
 ghost use Rattle.std.specs.Prelude.{◌≡◌};
+ghost use Rattle.working.specs.Positions.{counts_bytes, counts_in, desk_bytes, desk_in, interval_bytes, interval_of};
 
 use crate::numbers::{four, in_four, in_two, one_if, two};
 use working::{Clears, Counts, Desk, Interval};

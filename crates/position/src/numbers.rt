@@ -1,5 +1,5 @@
 // Numbers as bytes, high byte first, and bytes put at a place.
-ghost use Rattle.std.specs.Prelude.{◌*◌, ◌+◌, ◌≤◌, length, ◌≡◌};
+ghost use Rattle.std.specs.Prelude.{length, ◌*◌, ◌+◌, ◌≡◌, ◌≤◌};
 ghost use Rattle.working.specs.Entries.{pasted};
 ghost use Rattle.working.specs.Positions.{in_four, in_two, same_bytes};
 ghost use Rattle.working.specs.WellMade.{one_if};

@@ -1,6 +1,6 @@
 // A section as 281 bytes, and the section that they say.
-ghost use Rattle.std.specs.Prelude.{◌*◌, ◌+◌, ◌≤◌, drop, length, replicate, take, ◌++◌, ◌≡◌};
 ghost use Rattle.position.specs.Reading.{Reads};
+ghost use Rattle.std.specs.Prelude.{drop, length, replicate, take, ◌*◌, ◌++◌, ◌+◌, ◌≡◌, ◌≤◌};
 ghost use Rattle.words.specs.Words.{section_in};
 ghost use Rattle.working.specs.Positions.{counts_in, desk_in, is_position, places_bytes, position_of, section_at, vehicle_in, vehicles_in};
 ghost use Rattle.working.specs.Sections.{pad_to, vehicles_of};

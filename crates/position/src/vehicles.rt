@@ -1,6 +1,6 @@
 // A vehicle as the ten bytes of its place.
-ghost use Rattle.working.specs.Positions.{movement_bytes, movement_of, vehicle_bytes, vehicle_in};
 ghost use Rattle.std.specs.Prelude.{◌≡◌};
+ghost use Rattle.working.specs.Positions.{movement_bytes, movement_of, vehicle_bytes, vehicle_in};
 
 use crate::numbers::{in_two, one_if, two};
 use working::{Entry, Movement, Vehicle};

@@ -1,7 +1,7 @@
 // What a driver leaves with: the vehicle's record, its speed and its forms.
+ghost use Rattle.std.specs.Prelude.{cond, ◌≡◌};
 ghost use Rattle.working.specs.Effects.{clear_forms, follow_speed, open_speed, train_speed, vehicle_for, way_form};
 ghost use Rattle.working.specs.declared.Speed.TheVariants.{Both};
-ghost use Rattle.std.specs.Prelude.{cond, ◌≡◌};
 
 use section::{other, station_number};
 use working::{Movement, Speed, Station, Vehicle, View};

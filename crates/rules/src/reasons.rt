@@ -1,8 +1,8 @@
 // What each kind is refused for. Each function puts document 01's tests in rising order, and the first that holds is given. 7 and 9, which every act is put to
 // first, and 17 to 19, which every departure is put to last, stand apart from the tests of the kind.
+ghost use Rattle.std.specs.Prelude.{List, ◌++◌, ◌≡◌};
 ghost use Rattle.working.specs.Reasons.{begin_tests, is_under, last_tests, may_enter, open_tests, receive_tests, resume_tests, return_tests, station_tests, train_tests};
 ghost use Rattle.working.specs.Refusals.{Test, first_of};
-ghost use Rattle.std.specs.Prelude.{List, ◌++◌, ◌≡◌};
 
 use section::{is_named, is_open_or_through, station_number};
 use working::{Clears, Desk, Interval, Refusal, Station, Vehicle, Verdict};

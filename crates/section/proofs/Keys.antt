@@ -1,7 +1,7 @@
 -- The keys of the vehicles passed, each put into a place that had none: a key is missing among them where its vehicle differs from each passed, since a form number
 -- is below 65536 and so a key tells both sender and form number.
 -- Assumes nothing.
-use Prim.Native.Nat.{◌-◌, ◌<◌, ◌≤◌, suc, zero, ℕ}
+use Prim.Native.Nat.{suc, zero, ℕ, ◌-◌, ◌<◌, ◌≤◌}
 use Rattle.section.specs.Made.{Keyed, differs_from, lacks, no_key}
 use Rattle.working.specs.WellMade.{same_form}
 use Rattle.working.specs.declared.Vehicle.{Vehicle}
@@ -9,9 +9,9 @@ use borrow.Author.Tests.{eq-eqb, ne_eqb}
 use lib.Dec.{eqb}
 use lib.ListN.{get_or, get_or-replicate, length, length-set, replicate, set}
 use lib.Seq.{get_or-set_other}
-use mathlib.Core.Bool.{Bool, ◌&&◌, and-false, false, not, true}
+use mathlib.Core.Bool.{Bool, and-false, false, not, true, ◌&&◌}
 use mathlib.Core.List.{List, [], ◌∷◌}
-use mathlib.Core.Path.{◌∙◌, ◌≡◌, ap, ap₂, refl, sym}
+use mathlib.Core.Path.{ap, ap₂, refl, sym, ◌∙◌, ◌≡◌}
 use native.Mathlib.Decide.{ℕ_discrete}
 use native.Mathlib.Omega.{arith}
 

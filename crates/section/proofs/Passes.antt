@@ -1,11 +1,11 @@
 -- A pass down, from B's end to A's: at place i it has what a definition by recursion says of the vehicles from place i on. It begins with none, takes in the one
 -- before, and ends at the first that it is asked about.
 -- Assumes nothing.
-use Prim.Native.Nat.{◌-◌, ◌<◌, ◌≤◌, min, suc, ℕ}
+use Prim.Native.Nat.{min, suc, ℕ, ◌-◌, ◌<◌, ◌≤◌}
 use lib.ListN.{drop, drop_of_length-le, get_or, length, take}
 use lib.Seq.{drop-cons, get_or-take, length-take-le, take_all}
 use mathlib.Core.List.{List, [], ◌∷◌}
-use mathlib.Core.Path.{◌∙◌, ◌≡◌, ap, subst, sym}
+use mathlib.Core.Path.{ap, subst, sym, ◌∙◌, ◌≡◌}
 use native.Mathlib.Decide.{dec_le}
 use native.Mathlib.Omega.{arith}
 

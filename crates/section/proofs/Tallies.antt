@@ -1,6 +1,6 @@
 -- A tally never counts more vehicles than it has seen, so a survey of fewer than 24 has room for one more.
 -- Assumes nothing.
-use Prim.Native.Nat.{◌<◌, ◌≤◌, ℕ}
+use Prim.Native.Nat.{ℕ, ◌<◌, ◌≤◌}
 use Rattle.section.specs.Made.{Room, survey_of}
 use Rattle.working.specs.WellMade.{count_from, is_from, one_if}
 use Rattle.working.specs.declared.Vehicle.{Vehicle}

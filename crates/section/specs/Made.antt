@@ -1,7 +1,7 @@
 -- What one pass over the vehicles finds, and a desk beside it: the clauses of `well_made` in the groups in which the code tests them.
-use Rattle.std.specs.Prelude.{◌*◌, ◌+◌, ◌<◌, ℕ, eqb, leb, Bool, ◌&&◌, cond, not, true, List, [], ◌++◌, ◌∷◌, ◌≡◌}
 use Rattle.section.specs.declared.made.Survey.{Survey}
 use Rattle.section.specs.declared.made.Tally.{Tally}
+use Rattle.std.specs.Prelude.{Bool, List, [], cond, eqb, leb, not, true, ℕ, ◌&&◌, ◌*◌, ◌++◌, ◌+◌, ◌<◌, ◌∷◌, ◌≡◌}
 use Rattle.working.specs.Entries.{every}
 use Rattle.working.specs.WellMade.{all, count_from, is_blank, is_from, movement_tests, numbered, one_if, ordered, same_form, shaped}
 use Rattle.working.specs.WellMade.{desk_figures, figure_tests, not_later, zero_tests}

@@ -1,7 +1,7 @@
 // The test that a section is well made: one pass over the vehicles present, one over the unused places, the form numbers, then the desks.
 // The passes go from B's end to A's, as the definitions do, and pass no place by: a section is nearly always well made.
-ghost use Rattle.std.specs.Prelude.{◌<◌, ◌≤◌, drop, take, ◌≡◌};
 ghost use Rattle.section.specs.Made.{Keyed, Room, all_blank, all_zero, counted, desk_made_with, lacks, seen, survey_of};
+ghost use Rattle.std.specs.Prelude.{drop, take, ◌<◌, ◌≡◌, ◌≤◌};
 ghost use Rattle.working.specs.WellMade.{differ, is_fresh_desk, not_later, one_if, well_made};
 
 use crate::vehicles::{is_blank, is_shaped};

@@ -1,7 +1,7 @@
 // The two stations.
+ghost use Rattle.std.specs.Prelude.{◌≡◌};
 ghost use Rattle.working.specs.Events.{station_of};
 ghost use Rattle.working.specs.Sections.{number_at, other_at};
-ghost use Rattle.std.specs.Prelude.{◌≡◌};
 
 use working::Station;
 

@@ -1,6 +1,6 @@
 // One vehicle: what it left on, whose it is, and whether its record is well made.
-ghost use Rattle.std.specs.Prelude.{min, ◌≡◌};
 ghost use Rattle.section.specs.Made.{movement_made};
+ghost use Rattle.std.specs.Prelude.{min, ◌≡◌};
 ghost use Rattle.working.specs.Reasons.{is_named};
 ghost use Rattle.working.specs.WellMade.{is_blank, is_blank_movement, is_open_or_through, shaped};
 

@@ -1,14 +1,14 @@
 -- Names and titles, byte by byte: zeros, letters that stand first, and a name at the front of zeros.
 -- Assumes nothing.
-use Prim.Native.Nat.{◌+◌, ◌-◌, ◌<◌, ◌≤◌, suc, zero, ℕ}
+use Prim.Native.Nat.{suc, zero, ℕ, ◌+◌, ◌-◌, ◌<◌, ◌≤◌}
 use Rattle.working.specs.Sections.{pad_with}
 use Rattle.working.specs.Shelves.{is_letter, is_zero, letters_in}
 use lib.Dec.{eqb}
 use lib.ListN.{drop, drop_of_length-le, get_or, length, length-drop, replicate, take}
 use lib.Seq.{drop-cons, take_all}
-use mathlib.Core.Bool.{Bool, ◌&&◌, and-true, false, true}
+use mathlib.Core.Bool.{Bool, and-true, false, true, ◌&&◌}
 use mathlib.Core.List.{List, [], ◌++◌, ◌∷◌}
-use mathlib.Core.Path.{◌≡◌, ap, refl}
+use mathlib.Core.Path.{ap, refl, ◌≡◌}
 use native.Mathlib.Numerals.{add-one}
 use native.Mathlib.Omega.{arith}
 

@@ -1,6 +1,6 @@
 -- What the tests of a store and of a fetch say of what is lent, and the bytes that a fetch copies.
 -- Assumes nothing.
-use Prim.Native.Nat.{◌*◌, ◌+◌, ◌≤◌, ℕ}
+use Prim.Native.Nat.{ℕ, ◌*◌, ◌+◌, ◌≤◌}
 use Rattle.working.proofs.laws.Tests.{both}
 use Rattle.working.specs.Entries.{pasted}
 use Rattle.working.specs.Shelves.{is_name, is_shelf, place_for, place_named, places_made, position_in, title_of}
@@ -10,7 +10,7 @@ use lib.ListN.{drop, length, length-drop, length-take, take}
 use lib.Seq.{drop-drop}
 use mathlib.Core.Bool.{true}
 use mathlib.Core.List.{List, ◌++◌}
-use mathlib.Core.Path.{◌∙◌, ◌≡◌, ap, sym}
+use mathlib.Core.Path.{ap, sym, ◌∙◌, ◌≡◌}
 use native.Mathlib.Omega.{arith}
 
 -- ---- the place of a name

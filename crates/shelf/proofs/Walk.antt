@@ -1,15 +1,15 @@
 -- The places of a shelf from the i-th on, as the definitions go over them: what stands in the i-th, and the rest.
 -- Assumes nothing.
-use Prim.Native.Nat.{◌*◌, ◌+◌, ◌-◌, ◌<◌, suc, ℕ}
+use Prim.Native.Nat.{suc, ℕ, ◌*◌, ◌+◌, ◌-◌, ◌<◌}
 use Rattle.position.proofs.Places.{first}
 use Rattle.working.specs.Positions.{byte_at, is_position, same_bytes}
 use Rattle.working.specs.Shelves.{is_among, is_title, is_zero, place_for, places_made, title_in, used_well}
 use lib.Dec.{eqb}
 use lib.ListN.{drop, take}
 use lib.Seq.{drop-drop}
-use mathlib.Core.Bool.{Bool, ◌&&◌, ◌||◌, and_assoc, and-true, cond, not}
+use mathlib.Core.Bool.{Bool, and-true, and_assoc, cond, not, ◌&&◌, ◌||◌}
 use mathlib.Core.List.{List}
-use mathlib.Core.Path.{◌∙◌, ◌≡◌, ap}
+use mathlib.Core.Path.{ap, ◌∙◌, ◌≡◌}
 use native.Mathlib.Omega.{arith}
 
 -- the bytes from a place on

@@ -1,5 +1,5 @@
 // Names: 1 to 12 capital letters; and a name as it stands in a place, with zeros to 12, its title.
-ghost use Rattle.std.specs.Prelude.{◌≤◌, length, ◌≡◌};
+ghost use Rattle.std.specs.Prelude.{length, ◌≡◌, ◌≤◌};
 ghost use Rattle.working.specs.Shelves.{is_letter, is_name, is_title, is_zero, letters_in, title_of};
 
 // The bytes of a name in its place.

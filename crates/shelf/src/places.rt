@@ -1,5 +1,5 @@
 // The places of a shelf.
-ghost use Rattle.std.specs.Prelude.{◌*◌, ◌-◌, ◌<◌, ◌≤◌, drop, length, ◌≡◌};
+ghost use Rattle.std.specs.Prelude.{drop, length, ◌*◌, ◌-◌, ◌<◌, ◌≡◌, ◌≤◌};
 ghost use Rattle.working.specs.Positions.{same_bytes};
 ghost use Rattle.working.specs.Shelves.{is_among, place_for, places_made, title_in, used_well};
 

@@ -1,5 +1,5 @@
 // Storing and fetching. What is refused alters nothing.
-ghost use Rattle.std.specs.Prelude.{◌*◌, ◌<◌, length, ◌++◌, ◌≡◌};
+ghost use Rattle.std.specs.Prelude.{length, ◌*◌, ◌++◌, ◌<◌, ◌≡◌};
 ghost use Rattle.working.specs.Entries.{pasted};
 ghost use Rattle.working.specs.Positions.{if_allowed};
 ghost use Rattle.working.specs.Refusals.{first_of};

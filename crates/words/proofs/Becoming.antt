@@ -1,6 +1,6 @@
 -- One change of the words after another: what the second makes of the words that the first left, it makes of them before the first.
 -- Assumes nothing.
-use Prim.Native.Nat.{◌≤◌, ℕ}
+use Prim.Native.Nat.{ℕ, ◌≤◌}
 use Rattle.words.specs.Words.{Becomes, DeskBecomes, OwnWords, VehiclesBecome, section_in, start_in, words_of}
 use Rattle.working.proofs.invariant.Made.{vehicles_with}
 use Rattle.working.specs.Sections.{desk_of, vehicles_of, with_desk, with_vehicles}
@@ -11,7 +11,7 @@ use Rattle.working.specs.declared.Station.{Station}
 use Rattle.working.specs.declared.Vehicle.{Vehicle}
 use lib.ListN.{length}
 use mathlib.Core.List.{List}
-use mathlib.Core.Path.{◌∙◌, ◌≡◌, ap, ap₂, refl, subst, sym}
+use mathlib.Core.Path.{ap, ap₂, refl, subst, sym, ◌∙◌, ◌≡◌}
 use native.Mathlib.Omega.{arith}
 
 pub becomes_then : {w u after : List ℕ} {s t : Section} {i j : ℕ} → Becomes w u s i → Becomes u after t j → (t.len ≤ 24 → s.len ≤ 24) → Becomes w after t j

@@ -1,7 +1,7 @@
 -- A station's desk is put: all other words are as they were, so that they stand for the section with that desk; and a section's own words become those of
 -- the section with it. And one of the counts is put, likewise.
 -- Assumes nothing.
-use Prim.Native.Nat.{◌%◌, ◌+◌, ◌-◌, ◌<◌, ◌≤◌, suc, zero, ℕ}
+use Prim.Native.Nat.{suc, zero, ℕ, ◌%◌, ◌+◌, ◌-◌, ◌<◌, ◌≤◌}
 use Rattle.words.proofs.Packing.{one_back_lem}
 use Rattle.words.proofs.Written.{as_written, first_words, set_past, written}
 use Rattle.words.specs.Stores.{DeskPut}
@@ -19,9 +19,9 @@ use Rattle.working.specs.declared.Station.{Station}
 use Rattle.working.specs.declared.Whose.TheVariants.{NoStation, Of}
 use Rattle.working.specs.declared.Whose.{Whose}
 use lib.ListN.{drop, drop_of_length-le, get_or, length, length-drop, set, take, take-append-drop}
-use lib.Seq.{drop-cons, drop-drop, drop-set-lt, length-take-le, take_all, take-suc}
-use mathlib.Core.List.{List, [], ◌++◌, ◌∷◌, append_assoc, append-nil}
-use mathlib.Core.Path.{◌∙◌, ◌≡◌, ap, ap₂, refl, sym}
+use lib.Seq.{drop-cons, drop-drop, drop-set-lt, length-take-le, take-suc, take_all}
+use mathlib.Core.List.{List, [], append-nil, append_assoc, ◌++◌, ◌∷◌}
+use mathlib.Core.Path.{ap, ap₂, refl, sym, ◌∙◌, ◌≡◌}
 use native.Mathlib.Nat.{mod-eq_of_lt}
 use native.Mathlib.Numerals.{add-one}
 use native.Mathlib.Omega.{arith}

@@ -1,6 +1,6 @@
 -- A vehicle enters or leaves at a station's end, or has met another: the words stored are those of the vehicles after it.
 -- Assumes nothing.
-use Prim.Native.Nat.{◌%◌, ◌*◌, ◌+◌, ◌-◌, ◌<◌, ◌≤◌, ℕ}
+use Prim.Native.Nat.{ℕ, ◌%◌, ◌*◌, ◌+◌, ◌-◌, ◌<◌, ◌≤◌}
 use Rattle.words.proofs.Becoming.{becomes_as, vehicles_then}
 use Rattle.words.proofs.Packing.{vehicle_back}
 use Rattle.words.proofs.Round.{Moves, enters_moves, leaves_moves, meets_moves, remove-length}
@@ -20,7 +20,7 @@ use Rattle.working.specs.declared.Vehicle.{Vehicle}
 use lib.ListN.{get_or, length, length-set, set}
 use lib.Seq.{get_or-drop, get_or-set_other, set-get_or}
 use mathlib.Core.List.{List}
-use mathlib.Core.Path.{◌∙◌, ◌≡◌, ap, ap₂, refl, subst, sym}
+use mathlib.Core.Path.{ap, ap₂, refl, subst, sym, ◌∙◌, ◌≡◌}
 use native.Mathlib.Numerals.{add-one}
 use native.Mathlib.Omega.{arith}
 

@@ -1,7 +1,7 @@
 -- A section put into words: the words of an empty one, then each vehicle present entered at B's end, then the desks; at each step they are the own words of
 -- the section so far. And the places read off them, one after another.
 -- Assumes nothing.
-use Prim.Native.Nat.{◌+◌, ◌<◌, ◌≤◌, ℕ}
+use Prim.Native.Nat.{ℕ, ◌+◌, ◌<◌, ◌≤◌}
 use Rattle.words.proofs.Becoming.{becomes_as, desk-length, own_then}
 use Rattle.words.proofs.Packing.{one_back_lem}
 use Rattle.words.specs.Words.{DeskBecomes, OwnWords, VehiclesBecome, by_slot, one_back, section_in, slot_words, start_on, word_count, words_of}
@@ -18,7 +18,7 @@ use lib.ListN.{get_or, length, length-append, replicate, set, take}
 use lib.Seq.{length-take-le, take-suc}
 use mathlib.Core.Bool.{Bool}
 use mathlib.Core.List.{List, [], ◌∷◌}
-use mathlib.Core.Path.{◌∙◌, ◌≡◌, ap, refl}
+use mathlib.Core.Path.{ap, refl, ◌∙◌, ◌≡◌}
 use native.Mathlib.Nat.{mod-eq_of_lt}
 use native.Mathlib.Numerals.{add-one}
 use native.Mathlib.Omega.{arith}

@@ -1,13 +1,13 @@
 -- A vehicle's two words, each figure in bytes of its own: a figure that fits its bytes comes back.
 -- Assumes nothing.
-use Prim.Native.Nat.{◌%◌, ◌*◌, ◌+◌, ◌/◌, ◌<◌, ◌≤◌, suc, zero, ℕ}
+use Prim.Native.Nat.{suc, zero, ℕ, ◌%◌, ◌*◌, ◌+◌, ◌/◌, ◌<◌, ◌≤◌}
 use Rattle.words.specs.Words.{first_word, left_on, movement_in, packed, vehicle_in}
 use Rattle.working.specs.WellMade.{one_if}
 use Rattle.working.specs.declared.Movement.TheVariants.{LastTrain}
 use Rattle.working.specs.declared.Vehicle.{Vehicle}
 use lib.Dec.{eqb}
 use mathlib.Core.Bool.{Bool, false, true}
-use mathlib.Core.Path.{◌≡◌, refl}
+use mathlib.Core.Path.{refl, ◌≡◌}
 use native.Mathlib.Nat.{mod-eq_of_lt}
 use native.Mathlib.Omega.{arith}
 

@@ -1,7 +1,7 @@
 -- Vehicles in a ring of slots: place i stands in slot (start + i) % 32. With one slot altered the ring holds those after an act at either end,
 -- and, where every other slot was unused, still nothing else: one law of each act serves both, with the number m of places that are known.
 -- Assumes nothing.
-use Prim.Native.Nat.{◌%◌, ◌+◌, ◌-◌, ◌<◌, ◌≤◌, min, suc, zero, ℕ}
+use Prim.Native.Nat.{min, suc, zero, ℕ, ◌%◌, ◌+◌, ◌-◌, ◌<◌, ◌≤◌}
 use Rattle.words.specs.Stores.{end_slot}
 use Rattle.words.specs.Words.{one_back, round, slots, start_on}
 use Rattle.working.proofs.invariant.Meeting.{redirect_length, redirect_set}
@@ -11,10 +11,10 @@ use Rattle.working.specs.Steps.{redirect_at, redirected}
 use Rattle.working.specs.declared.Station.TheVariants.{A, B}
 use Rattle.working.specs.declared.Station.{Station}
 use Rattle.working.specs.declared.Vehicle.{Vehicle}
-use lib.ListN.{get_or-eq_default, get_or, length, length-drop, length-take, set}
+use lib.ListN.{get_or, get_or-eq_default, length, length-drop, length-take, set}
 use lib.Seq.{get_or-append_seam, get_or-drop, get_or-set_other, get_or-set_same, get_or-take, length-take-le}
 use mathlib.Core.List.{List, [], ◌++◌, ◌∷◌}
-use mathlib.Core.Path.{◌∙◌, ◌≡◌, ap, refl, sym}
+use mathlib.Core.Path.{ap, refl, sym, ◌∙◌, ◌≡◌}
 use native.Mathlib.Decide.{dec_le, ℕ_discrete}
 use native.Mathlib.Omega.{arith}
 

@@ -1,6 +1,6 @@
 -- The ring's words, two to a slot. Two words stored in a slot alter the vehicle of that slot alone, and so in the words of any list of vehicles.
 -- Assumes nothing.
-use Prim.Native.Nat.{◌*◌, ◌+◌, ◌<◌, suc, zero, ℕ}
+use Prim.Native.Nat.{suc, zero, ℕ, ◌*◌, ◌+◌, ◌<◌}
 use Rattle.words.proofs.Round.{Alters}
 use Rattle.words.specs.Words.{first_word, second_word, slot_words, vehicle_at, vehicle_in}
 use Rattle.working.specs.Sections.{unused}
@@ -8,7 +8,7 @@ use Rattle.working.specs.declared.Vehicle.{Vehicle}
 use lib.ListN.{get_or, length, length-set, set}
 use lib.Seq.{get_or-set_other, get_or-set_same}
 use mathlib.Core.List.{List, [], ◌∷◌}
-use mathlib.Core.Path.{◌∙◌, ◌≡◌, ap, ap₂, refl}
+use mathlib.Core.Path.{ap, ap₂, refl, ◌∙◌, ◌≡◌}
 use native.Mathlib.Omega.{arith}
 
 -- two words in a slot of the ring

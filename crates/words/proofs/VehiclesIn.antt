@@ -1,9 +1,9 @@
 -- The vehicles in words: what is stored in a slot, with their number and the ring's start, makes the words stand for the section with those after it;
 -- and a section's own words become the words of that section.
 -- Assumes nothing.
-use Prim.Native.Nat.{◌%◌, ◌*◌, ◌+◌, ◌-◌, ◌<◌, ◌≤◌, min, suc, zero, ℕ}
+use Prim.Native.Nat.{min, suc, zero, ℕ, ◌%◌, ◌*◌, ◌+◌, ◌-◌, ◌<◌, ◌≤◌}
 use Rattle.section.proofs.Passes.{take_present}
-use Rattle.words.proofs.Round.{Moves, Stands, round_at, round-length}
+use Rattle.words.proofs.Round.{Moves, Stands, round-length, round_at}
 use Rattle.words.proofs.Slots.{in_ring, list_altered, slot_altered, slot_words_lem}
 use Rattle.words.proofs.Written.{as_written, set_past}
 use Rattle.words.specs.Stores.{in_slot}
@@ -18,11 +18,11 @@ use Rattle.working.specs.declared.Station.TheVariants.{A, B}
 use Rattle.working.specs.declared.Station.{Station}
 use Rattle.working.specs.declared.Vehicle.{Vehicle}
 use borrow.Author.Tests.{ltb-true}
-use lib.ListN.{get_or-eq_default, drop, drop_of_length-le, get_or, length, length-drop, length-set, set, take}
+use lib.ListN.{drop, drop_of_length-le, get_or, get_or-eq_default, length, length-drop, length-set, set, take}
 use lib.Seq.{drop-cons, ext_get_or}
 use mathlib.Core.Bool.{Bool, cond, true}
 use mathlib.Core.List.{List, [], ◌++◌, ◌∷◌}
-use mathlib.Core.Path.{◌∙◌, ◌≡◌, ap, ap₂, refl, sym}
+use mathlib.Core.Path.{ap, ap₂, refl, sym, ◌∙◌, ◌≡◌}
 use native.Mathlib.Decide.{dec_le}
 use native.Mathlib.Omega.{arith}
 

@@ -1,11 +1,11 @@
 -- Words written out: the figures one by one, so that each is read back where it was put, and the ring behind them.
 -- Assumes nothing.
-use Prim.Native.Nat.{◌+◌, ◌<◌, ◌≤◌, suc, zero, ℕ}
+use Prim.Native.Nat.{suc, zero, ℕ, ◌+◌, ◌<◌, ◌≤◌}
 use Rattle.words.specs.Words.{ring_from, ring_in, word_count, words_from}
 use lib.ListN.{drop, get_or, length, length-set, set, take}
-use lib.Seq.{drop-cons, drop-set-add, take_at, take-set-lt}
+use lib.Seq.{drop-cons, drop-set-add, take-set-lt, take_at}
 use mathlib.Core.List.{List, [], ◌++◌, ◌∷◌}
-use mathlib.Core.Path.{◌∙◌, ◌≡◌, ap, refl, sym}
+use mathlib.Core.Path.{ap, refl, sym, ◌∙◌, ◌≡◌}
 use native.Mathlib.Nat.{add-zero}
 use native.Mathlib.Omega.{arith}
 

@@ -1,5 +1,5 @@
 -- What a store within this crate alters, as its functions tell one another.
-use Rattle.std.specs.Prelude.{◌%◌, ◌*◌, ◌+◌, ◌<◌, ℕ, drop, get_or, length, set, take, List, ◌≡◌}
+use Rattle.std.specs.Prelude.{List, drop, get_or, length, set, take, ℕ, ◌%◌, ◌*◌, ◌+◌, ◌<◌, ◌≡◌}
 use Rattle.words.specs.Words.{desk_from, desk_words_in, first_word, ring_from, second_word, slots, start_in, start_on, start_place, vehicle_in, word_count}
 use Rattle.working.specs.WellMade.{desk_length}
 use Rattle.working.specs.declared.Station.TheVariants.{A, B}

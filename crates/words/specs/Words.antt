@@ -11,7 +11,7 @@
 -- A slot's first word, from its low end: form number (two bytes), sender, heading, met (1 or 0), class (a byte each).
 -- Its second word: what the vehicle left on (0 OPEN, 1 THROUGH, 2 RETURN, 3 TRAIN, 4 a TRAIN endorsed as the last), granted, asked, given up (a byte each). Two zeros
 -- are an unused place.
-use Rattle.std.specs.Prelude.{◌%◌, ◌*◌, ◌+◌, ◌-◌, ◌/◌, ◌^◌, ◌≤◌, min, suc, zero, ℕ, eqb, drop, get_or, Bool, false, true, List, [], ◌++◌, ◌∷◌, ◌≡◌}
+use Rattle.std.specs.Prelude.{Bool, List, [], drop, eqb, false, get_or, min, suc, true, zero, ℕ, ◌%◌, ◌*◌, ◌++◌, ◌+◌, ◌-◌, ◌/◌, ◌^◌, ◌∷◌, ◌≡◌, ◌≤◌}
 use Rattle.working.specs.Reasons.{find_of, may_meet}
 pub use Rattle.working.specs.Sections.{with_clears, with_guest, with_out, with_waiting}
 use Rattle.working.specs.Effects.{received}

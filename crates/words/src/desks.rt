@@ -1,5 +1,5 @@
 // What a section holds but for its vehicles, in lent words: how many they are, in force, entries refused, the ring's start, and a word for each figure of the two desks.
-ghost use Rattle.std.specs.Prelude.{◌<◌, ◌≤◌, length, set, ◌≡◌};
+ghost use Rattle.std.specs.Prelude.{length, set, ◌<◌, ◌≡◌, ◌≤◌};
 ghost use Rattle.words.specs.Stores.{DeskPut};
 ghost use Rattle.words.specs.Words.{Becomes, DeskBecomes, RingKept, section_in, start_in, start_place, with_clock, with_departure, with_receipt, with_sent};
 ghost use Rattle.words.specs.Words.{count_in, count_place, desk_from, desk_read, interval_in};

@@ -1,7 +1,7 @@
 // A section put into words, and read off them.
+ghost use Rattle.std.specs.Prelude.{take, ◌≡◌};
 ghost use Rattle.words.specs.Words.{OwnWords, section_in};
 ghost use Rattle.working.specs.Sections.{emptied, fresh, vehicles_of, with_vehicles};
-ghost use Rattle.std.specs.Prelude.{take, ◌≡◌};
 
 use crate::desks::{Words, desk, in_force, present, put_desk, refused};
 use crate::ring::{at_place, emptied_words, insert_last, present_in};

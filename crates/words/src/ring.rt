@@ -1,6 +1,6 @@
 // The vehicles present, in a ring of slots: one enters or leaves at a station's end, and two meet. No other vehicle is moved. What lies in another slot
 // stands for nothing; a slot is made unused when its vehicle leaves, so that a section has words of its own.
-ghost use Rattle.std.specs.Prelude.{◌%◌, ◌+◌, ◌-◌, ◌<◌, ◌≤◌, get_or, length, ◌≡◌};
+ghost use Rattle.std.specs.Prelude.{get_or, length, ◌%◌, ◌+◌, ◌-◌, ◌<◌, ◌≡◌, ◌≤◌};
 ghost use Rattle.words.specs.Stores.{StartMoved, VehiclePut, end_slot};
 ghost use Rattle.words.specs.Words.{Met, OwnWords, VehiclesBecome, one_back, ring_in, section_in, slots, start_in, start_on, vehicle_at};
 ghost use Rattle.working.specs.Reasons.{find_of, may_meet};

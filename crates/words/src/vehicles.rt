@@ -1,5 +1,5 @@
 // A vehicle as two words, so that vehicles can be lent and altered where they lie. Two zeros are an unused place. specs/Words.antt has the table.
-ghost use Rattle.std.specs.Prelude.{◌≤◌, ◌≡◌};
+ghost use Rattle.std.specs.Prelude.{◌≡◌, ◌≤◌};
 ghost use Rattle.words.specs.Words.{first_word, left_on, movement_in, movement_word, packed, vehicle_in};
 ghost use Rattle.working.specs.WellMade.{one_if};
 

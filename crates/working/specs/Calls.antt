@@ -1,6 +1,6 @@
 -- T-06, one statement about every list of steps, stores and fetches on one section and one shelf, from the fresh section and the empty shelf, accepted or refused. In plain
 -- words: docs/THEOREM.md, "Lists of calls".
-use Rattle.std.specs.Prelude.{ℕ, eqb, drop, replicate, take, Bool, ◌&&◌, cond, false, not, true, List, [], ◌++◌, ◌∷◌, ◌≡◌}
+use Rattle.std.specs.Prelude.{Bool, List, [], cond, drop, eqb, false, not, replicate, take, true, ℕ, ◌&&◌, ◌++◌, ◌∷◌, ◌≡◌}
 use Rattle.working.specs.Demand3.{Demand3}
 use Rattle.working.specs.Entries.{is_in}
 use Rattle.working.specs.Positions.{StepsPosition, position_of, same_bytes}

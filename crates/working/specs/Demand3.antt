@@ -1,6 +1,7 @@
 -- Demand 3, one statement about every list of steps from a fresh section; proofs/theorems/Demand3 proves it of every run. In plain words, clause by clause, beside document
 -- 01: docs/THEOREM.md. Its terms are document 01's, and stand in that order in Terms; a list of steps, and its run, in Runs; the step, in Steps.
-use Rattle.std.specs.Prelude.{◌+◌, ◌<◌, ℕ, true, List, ◌++◌, ◌∷◌, ◌≡◌}
+use Rattle.std.proofs.Math.Option.{some}
+use Rattle.std.specs.Prelude.{List, true, ℕ, ◌++◌, ◌+◌, ◌<◌, ◌∷◌, ◌≡◌}
 use Rattle.working.specs.Acts.{Act}
 use Rattle.working.specs.Runs.{Done, Run, results, results_of}
 use Rattle.working.specs.Sections.{desk_of, fresh, number_at, other_at}
@@ -8,7 +9,6 @@ use Rattle.working.specs.Terms.{AcceptedAt, Departure, ReceivesIt, departure_of,
 use Rattle.working.specs.declared.Section.{Section}
 use Rattle.working.specs.declared.Station.TheVariants.{A, B}
 use Rattle.working.specs.declared.Station.{Station}
-use Rattle.std.proofs.Math.Option.{some}
 
 pub record Demand3 {l : List Done} {s : Section} (run : Run fresh l s) : Type 0 where
   -- each step, accepted or refused, has the answer and the section that the definitions fix for it

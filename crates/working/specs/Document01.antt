@@ -3,7 +3,7 @@
 -- refusal 16 on a TRAIN, and what a receipt makes of holds; T-03 kind 9, which was refusal 2; T-07 a follower's speed, which had one figure; T-08 refusal 11, which a RETURN
 -- could read. What a later request alters is first written out here as it was. The sections are today's. The step makes nothing wait, moves nothing that waits and sends no
 -- vehicle of kind 9, so that from fresh there is none of these; and where there is none `well_made` asks what document 01 asks.
-use Rattle.std.specs.Prelude.{◌<◌, ℕ, eqb, ltb, Bool, ◌&&◌, ◌||◌, cond, false, not, true, List, [], ◌∷◌, ◌≡◌}
+use Rattle.std.specs.Prelude.{Bool, List, [], cond, eqb, false, ltb, not, true, ℕ, ◌&&◌, ◌<◌, ◌||◌, ◌∷◌, ◌≡◌}
 use Rattle.working.specs.Acts as acts
 use Rattle.working.specs.Acts.{Act}
 use Rattle.working.specs.Effects.{Arrive, Depart, Plan, Refuse, effect_of, other_desk, own_desk}

@@ -1,6 +1,6 @@
 -- Document 01, "Each entry's effect", with T-02 on the reply that a vehicle brings, T-03 on a TRAIN endorsed as the last and T-07 on a follower's speed: speeds, forms,
 -- and the desk after a departure and after a receipt. S is the entry's station, O the other.
-use Rattle.std.specs.Prelude.{◌+◌, ◌-◌, ℕ, eqb, ltb, Bool, ◌||◌, cond, false, true}
+use Rattle.std.specs.Prelude.{Bool, cond, eqb, false, ltb, true, ℕ, ◌+◌, ◌-◌, ◌||◌}
 use Rattle.working.specs.Acts as acts
 use Rattle.working.specs.Acts.{Act}
 use Rattle.working.specs.Sections.{number_at, other_at, with_clears, with_entered, with_guest, with_holds, with_out, with_waiting}

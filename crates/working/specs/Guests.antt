@@ -2,7 +2,7 @@
 -- The step that had 11 on RETURN stays here as a definition. Of it is shown why the test could go; of today's step, that it differs from this one in nothing but the number
 -- which such a RETURN reads.
 -- A list by that step is worked on sections and bytes, so that the forms and the answers which stand in it are not looked at; a list today is a run, as in demand 3.
-use Rattle.std.specs.Prelude.{◌<◌, ℕ, eqb, Bool, cond, false, true, List, ◌≡◌}
+use Rattle.std.specs.Prelude.{Bool, List, cond, eqb, false, true, ℕ, ◌<◌, ◌≡◌}
 use Rattle.working.specs.Acts as acts
 use Rattle.working.specs.Acts.{Act}
 use Rattle.working.specs.Document01.{altered, on_decoded_by, return_tests_01, tests_by}

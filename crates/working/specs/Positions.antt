@@ -7,7 +7,7 @@
 --   253, 267 | 14 each | desk A, desk B
 --
 -- and what a step makes of it for a host program.
-use Rattle.std.specs.Prelude.{◌%◌, ◌*◌, ◌+◌, ◌/◌, ◌≤◌, suc, zero, ℕ, eqb, ltb, drop, get_or, length, replicate, take, Bool, ◌&&◌, cond, false, not, true, List, [], ◌++◌, ◌∷◌, ◌≡◌}
+use Rattle.std.specs.Prelude.{Bool, List, [], cond, drop, eqb, false, get_or, length, ltb, not, replicate, suc, take, true, zero, ℕ, ◌%◌, ◌&&◌, ◌*◌, ◌++◌, ◌+◌, ◌/◌, ◌∷◌, ◌≡◌, ◌≤◌}
 use Rattle.working.specs.Entries.{pasted}
 use Rattle.working.specs.Refusals.{Test, first_of, number_of}
 use Rattle.working.specs.Sections.{pad_to, vehicles_of}

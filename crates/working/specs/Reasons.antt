@@ -1,6 +1,6 @@
 -- Document 01, "Reasons by who causes them", with T-02 on refusal 16, T-03 on kind 9 and T-08 on refusal 11: what each kind is refused for, in rising order.
 -- Refusals 1 to 4 stand in Entries.
-use Rattle.std.specs.Prelude.{◌+◌, suc, ℕ, eqb, leb, ltb, get_or, length, Bool, ◌&&◌, ◌||◌, cond, false, not, List, [], ◌++◌, ◌∷◌}
+use Rattle.std.specs.Prelude.{Bool, List, [], cond, eqb, false, get_or, leb, length, ltb, not, suc, ℕ, ◌&&◌, ◌++◌, ◌+◌, ◌||◌, ◌∷◌}
 use Rattle.working.specs.Acts as acts
 use Rattle.working.specs.Acts.{Act}
 use Rattle.working.specs.Entries.{every}

@@ -1,5 +1,5 @@
 -- Document 01, "Reasons by who causes them": the numbers, and a list of tests that is scanned for the first that holds.
-use Rattle.std.specs.Prelude.{ℕ, Bool, false, true, List, [], ◌∷◌}
+use Rattle.std.specs.Prelude.{Bool, List, [], false, true, ℕ, ◌∷◌}
 use Rattle.working.specs.declared.Refusal.TheVariants.{AlreadyInForce, BeforeClock, BufferTooShort, EndsInside, FormsUsed, GrantNotAllowed, GuestHere, HoldsLineClear}
 use Rattle.working.specs.declared.Refusal.TheVariants.{IllMade, IntervalRunning, MayNotEnter, MayNotMeet, NoGuest, NoLineClear, NoPosition, NotInForce, NotNearest}
 use Rattle.working.specs.declared.Refusal.TheVariants.{OpenerAway, OutOfRange, OwesLineClear, ShelfFull, TwelveSent, UnknownKind, UnknownName, VehiclePresent, WrongMap}

@@ -1,5 +1,5 @@
 -- Document 01, "The section": the two stations, the vehicles in order from A to B, the desks, and the fresh section.
-use Rattle.std.specs.Prelude.{◌+◌, ◌-◌, suc, zero, ℕ, eqb, ltb, drop, get_or, length, take, Bool, cond, false, List, [], ◌++◌, ◌∷◌}
+use Rattle.std.specs.Prelude.{Bool, List, [], cond, drop, eqb, false, get_or, length, ltb, suc, take, zero, ℕ, ◌++◌, ◌+◌, ◌-◌, ◌∷◌}
 use Rattle.working.specs.declared.Clears.{Clears}
 use Rattle.working.specs.declared.Counts.{Counts}
 use Rattle.working.specs.declared.Desk.{Desk}

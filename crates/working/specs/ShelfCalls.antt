@@ -1,6 +1,6 @@
 -- T-06, "A fetched section equals the one last stored under that name, if nobody else writes the shelf": one statement about every list of stores and fetches on one shelf,
 -- whoever wrote that shelf, of any names, any positions and any buffers, accepted or refused. In plain words: docs/THEOREM.md, "Lists of calls".
-use Rattle.std.specs.Prelude.{◌*◌, ◌≤◌, ℕ, eqb, drop, length, Bool, ◌&&◌, false, not, true, List, [], ◌++◌, ◌∷◌, ◌≡◌}
+use Rattle.std.specs.Prelude.{Bool, List, [], drop, eqb, false, length, not, true, ℕ, ◌&&◌, ◌*◌, ◌++◌, ◌∷◌, ◌≡◌, ◌≤◌}
 use Rattle.working.specs.Entries.{pasted}
 use Rattle.working.specs.Positions.{byte_at, same_bytes}
 use Rattle.working.specs.Shelves.{Fetches, Stores, is_shelf, title_in}

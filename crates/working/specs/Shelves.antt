@@ -1,6 +1,6 @@
 -- T-06, "The lent shelf is 16 places of name, zeros to 12, and well-made position, in the order first stored, no name twice, the rest zero; another is 5": 16 places of 293
 -- bytes, 4,688 in all; and what a store and a fetch make of it.
-use Rattle.std.specs.Prelude.{◌*◌, suc, zero, ℕ, eqb, leb, ltb, drop, length, take, Bool, ◌&&◌, ◌||◌, cond, false, not, true, List, [], ◌++◌, ◌∷◌, ◌≡◌}
+use Rattle.std.specs.Prelude.{Bool, List, [], cond, drop, eqb, false, leb, length, ltb, not, suc, take, true, zero, ℕ, ◌&&◌, ◌*◌, ◌++◌, ◌||◌, ◌∷◌, ◌≡◌}
 use Rattle.working.specs.Entries.{every, pasted}
 use Rattle.working.specs.Positions.{byte_at, if_allowed, is_position, refusal_in, same_bytes}
 use Rattle.working.specs.Refusals.{Test, first_of}

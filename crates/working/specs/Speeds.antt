@@ -2,7 +2,7 @@
 -- which go down para 8010 and para 8021 by the cases of a view. Here are document 01's two sentences by the view's number, as it has them, and what is shown of each choice,
 -- by itself, for every view: that for T/B 602 is its sentence's speed; that for a follower, which T-07 gave both figures of para 8021, has its sentence's figure for the view,
 -- and beside it the 10 that the sentence has in every view but 1. And who has two figures: a follower, on T/409, and nobody else.
-use Rattle.std.specs.Prelude.{◌%◌, ◌/◌, ℕ, eqb, Bool, cond, false, not, true, ◌≡◌}
+use Rattle.std.specs.Prelude.{Bool, cond, eqb, false, not, true, ℕ, ◌%◌, ◌/◌, ◌≡◌}
 use Rattle.working.specs.Acts as acts
 use Rattle.working.specs.Acts.{Act}
 use Rattle.working.specs.Effects.{Arrive, Depart, Order, Plan, Refuse, effect_of, follow_speed, open_speed}

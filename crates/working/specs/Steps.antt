@@ -1,5 +1,5 @@
 -- The step on a section and bytes: a station decides by its own desk and the vehicle nearest it, and acts on that desk and at its own end of the section.
-use Rattle.std.specs.Prelude.{suc, zero, ℕ, Bool, false, true, List, [], ◌∷◌}
+use Rattle.std.specs.Prelude.{Bool, List, [], false, suc, true, zero, ℕ, ◌∷◌}
 use Rattle.working.specs.Acts.{Act}
 use Rattle.working.specs.Effects.{Arrive, Depart, Plan, Refuse, effect_of}
 use Rattle.working.specs.Events.{At, Bad, Begin, Decoded, Event, Meet, Resume, Says, decode}

@@ -1,5 +1,6 @@
 -- Document 01, the end of "Each entry's effect": the terms in which demand 3 is put, in that order, with T-02 and T-03 on line clears. What a list of steps is stands in Runs.
-use Rattle.std.specs.Prelude.{◌%◌, ℕ, eqb, get_or, Bool, ◌&&◌, cond, false, true, List, [], ◌∷◌, ◌≡◌}
+use Rattle.std.proofs.Math.Option.{Option, none, some}
+use Rattle.std.specs.Prelude.{Bool, List, [], cond, eqb, false, get_or, true, ℕ, ◌%◌, ◌&&◌, ◌∷◌, ◌≡◌}
 use Rattle.working.specs.Acts as acts
 use Rattle.working.specs.Acts.{Act}
 use Rattle.working.specs.Effects.{granted_in, is_slow}
@@ -16,7 +17,6 @@ use Rattle.working.specs.declared.Section.{Section}
 use Rattle.working.specs.declared.Speed.{Speed}
 use Rattle.working.specs.declared.Station.{Station}
 use Rattle.working.specs.declared.Vehicle.{Vehicle}
-use Rattle.std.proofs.Math.Option.{Option, none, some}
 
 -- ---- "An entry's answer is its refusal number, or its form number, forms and speed"
 

@@ -1,5 +1,5 @@
 -- Document 01, "The section": when a section is well made, clause by clause.
-use Rattle.std.specs.Prelude.{◌+◌, ℕ, eqb, leb, drop, length, Bool, ◌&&◌, ◌||◌, cond, false, not, true, List, [], ◌++◌, ◌∷◌}
+use Rattle.std.specs.Prelude.{Bool, List, [], cond, drop, eqb, false, leb, length, not, true, ℕ, ◌&&◌, ◌++◌, ◌+◌, ◌||◌, ◌∷◌}
 use Rattle.working.specs.Entries.{every}
 use Rattle.working.specs.Sections.{desk_of, fresh_desk, number_at, vehicles_of}
 use Rattle.working.specs.declared.Desk.{Desk}

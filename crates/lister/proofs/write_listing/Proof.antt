@@ -12,7 +12,7 @@ use borrow.Author.Rules.{rules}
 use borrow.Author.Tests.{not-true}
 use lib.ListN.{length}
 use lib.Seq.{length-take-le}
-use mathlib.Core.Path.{◌≡◌, sym}
+use mathlib.Core.Path.{sym, ◌≡◌}
 use native.Mathlib.Omega.{arith}
 
 abbrev invariant-loop : tie.invariant-loop

@@ -1,7 +1,7 @@
 -- So much of the block is written, and each write takes a byte or more of the rest.
 -- Assumes nothing.
-use Rattle.std.proofs.Common.{◌-◌, ◌≤◌, length}
 use Rattle.lister.proofs.write_whole.Given as goal
+use Rattle.std.proofs.Common.{length, ◌-◌, ◌≤◌}
 
 abbrev pub invariant-loop-done : goal.invariant-loop-done
 invariant-loop-done g l = l.done ≤ length l.block

@@ -1,7 +1,7 @@
 -- What each clause of demand 3 says of lists that are written out, drawn from the theorem. A clause gives first a fact of every list, over figures that nothing
 -- computes, so that a weaker clause does not give it; then come lists with document 01's figures in numbers.
 -- Assumes nothing.
-use Prim.Native.Nat.{◌%◌, ◌+◌, ◌<◌, ℕ}
+use Prim.Native.Nat.{ℕ, ◌%◌, ◌+◌, ◌<◌}
 use Rattle.working.proofs.examples.Computing.{step_computes}
 use Rattle.working.proofs.examples.Literals.{begin, counts, figures, opens, plain, receive, resume, returns, returns_asking, same_section, through, train, train_granting, vehicle, working}
 use Rattle.working.proofs.laws.Lists.{Todo, after, done, runs}
@@ -30,10 +30,10 @@ use Rattle.working.specs.declared.Vehicle.{Vehicle}
 use Rattle.working.specs.declared.View.TheVariants.{Clear, Impaired}
 use borrow.Author.Tests.{eqb-true}
 use lib.Dec.{eqb}
-use mathlib.Core.Bool.{Bool, ◌||◌, false, false≢true, true, true≢false}
+use mathlib.Core.Bool.{Bool, false, false≢true, true, true≢false, ◌||◌}
 use mathlib.Core.List.{List, [], ◌++◌, ◌∷◌}
 use mathlib.Core.Option.{Option, none, some}
-use mathlib.Core.Path.{◌∙◌, ◌≡◌, ap, refl, sym}
+use mathlib.Core.Path.{ap, refl, sym, ◌∙◌, ◌≡◌}
 use native.Mathlib.Omega.{arith}
 
 -- ---- lists

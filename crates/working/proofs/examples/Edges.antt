@@ -4,7 +4,7 @@
 -- (f) starts from a named well-made section, `worn`, whose station A has used form 9,998: its list from fresh has some twenty thousand entries, a THROUGH and its
 -- receipt for each number, and is run by the second program's generator, not written out here.
 -- Assumes nothing.
-use Prim.Native.Nat.{◌+◌, suc, ℕ}
+use Prim.Native.Nat.{suc, ℕ, ◌+◌}
 use Rattle.working.proofs.examples.Computing.{step_computes}
 use Rattle.working.proofs.examples.Literals.{begin, counts, figures, meet, opens, plain, receive, resume, returns, same_section, through, train, vehicle, working}
 use Rattle.working.specs.Document01.{decode01, step_of_01}
@@ -30,7 +30,7 @@ use Rattle.working.specs.declared.Whose.TheVariants.{NoStation, Of}
 use Rattle.working.specs.declared.Whose.{Whose}
 use mathlib.Core.Bool.{cond, false, true}
 use mathlib.Core.List.{List, [], ◌∷◌}
-use mathlib.Core.Path.{◌≡◌, refl}
+use mathlib.Core.Path.{refl, ◌≡◌}
 
 pub record Edge : Type 0 where
   pub before : Section

@@ -1,7 +1,7 @@
 -- Line clears given up, T-03 on lists from fresh: a LAST TRAIN carries those that its station held and has no trains for, and they stand in the sum until it is in; then
 -- the receiving station owes none, and holds what waited there or what the LAST TRAIN grants. Document 01 refused it with 2. For either station but where A is named.
 -- Assumes nothing.
-use Prim.Native.Nat.{◌+◌, ℕ}
+use Prim.Native.Nat.{ℕ, ◌+◌}
 use Rattle.working.proofs.examples.Computing.{step_computes}
 use Rattle.working.proofs.examples.Consequences.{Left, Owed, departure, handed, left, list, owed}
 use Rattle.working.proofs.examples.Literals.{figures, last_train, opens_as, plain, receive, returns, returns_asking, same_section, vehicle, working}
@@ -26,7 +26,7 @@ use Rattle.working.specs.declared.Station.{Station}
 use Rattle.working.specs.declared.View.TheVariants.{Clear}
 use mathlib.Core.Bool.{false, false≢true, true}
 use mathlib.Core.List.{List, [], ◌++◌, ◌∷◌}
-use mathlib.Core.Path.{◌≡◌, refl}
+use mathlib.Core.Path.{refl, ◌≡◌}
 use native.Mathlib.Omega.{arith}
 
 -- ---- in the sum

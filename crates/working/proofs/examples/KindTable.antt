@@ -3,7 +3,7 @@
 -- station may alter. A row has the section found, the bytes, the answer, and the section left, compared in every figure. Every section found is well made, or the answer
 -- would be 5.
 -- Assumes nothing.
-use Prim.Native.Nat.{◌+◌, ℕ}
+use Prim.Native.Nat.{ℕ, ◌+◌}
 use Rattle.working.proofs.examples.Computing.{step_computes}
 use Rattle.working.proofs.examples.Edges.{Edge, answers_by, answers_to, expected_of, leaving_another_by, refused, row, rows_leaving_another}
 use Rattle.working.proofs.examples.Literals.{begin, counts, figures, meet, opens_as, plain, receive, resume, vehicle, with_clock, with_owes, working}
@@ -27,7 +27,7 @@ use Rattle.working.specs.declared.Vehicle.{Vehicle}
 use Rattle.working.specs.declared.Whose.TheVariants.{NoStation, Of}
 use mathlib.Core.Bool.{Bool, false, true}
 use mathlib.Core.List.{List, [], ◌++◌, ◌∷◌}
-use mathlib.Core.Path.{◌≡◌, refl}
+use mathlib.Core.Path.{refl, ◌≡◌}
 
 -- ---- what the rows are made of
 

@@ -16,7 +16,7 @@ use Rattle.working.specs.declared.Speed.TheVariants.{NoSpeed}
 use Rattle.working.specs.declared.Vehicle.{Vehicle}
 use lib.Dec.{eqb}
 use lib.ListN.{length}
-use mathlib.Core.Bool.{Bool, ◌&&◌, false, true}
+use mathlib.Core.Bool.{Bool, false, true, ◌&&◌}
 use mathlib.Core.List.{List, [], ◌++◌, ◌∷◌}
 
 -- ---- entries as bytes: station, the time's low byte, and the rest in the fields' order

@@ -23,7 +23,7 @@ use lib.Dec.{eqb}
 use lib.ListN.{length, set}
 use mathlib.Core.Bool.{cond, false, true}
 use mathlib.Core.List.{List, [], ◌++◌, ◌∷◌}
-use mathlib.Core.Path.{◌≡◌, refl}
+use mathlib.Core.Path.{refl, ◌≡◌}
 
 -- ---- what the rows are made of
 

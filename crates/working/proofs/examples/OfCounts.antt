@@ -1,7 +1,7 @@
 -- What is shown of the counts of refused entries, drawn from the theorem: of any log that is not longer than a count may be large, each of the three and their sum; and a log with
 -- entries refused for A, for B and of no station, in figures.
 -- Assumes nothing.
-use Prim.Native.Nat.{◌+◌, ◌≤◌, ℕ}
+use Prim.Native.Nat.{ℕ, ◌+◌, ◌≤◌}
 use Rattle.working.proofs.examples.Computing.{turns_compute}
 use Rattle.working.proofs.examples.Literals.{begin, counts, meet, returns}
 use Rattle.working.proofs.theorems.Counted.{logs_counted}
@@ -12,7 +12,7 @@ use Rattle.working.specs.declared.Station.TheVariants.{A, B}
 use Rattle.working.specs.declared.Whose.TheVariants.{NoStation, Of}
 use lib.ListN.{length}
 use mathlib.Core.List.{List, [], ◌++◌, ◌∷◌}
-use mathlib.Core.Path.{◌≡◌, refl}
+use mathlib.Core.Path.{refl, ◌≡◌}
 
 -- the counts at the end of a log read from the fresh section
 abbrev counts_after : List ℕ → Counts

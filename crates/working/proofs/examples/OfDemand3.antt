@@ -15,7 +15,7 @@ use Rattle.working.specs.declared.Station.TheVariants.{A, B}
 use Rattle.working.specs.declared.View.TheVariants.{Clear, Impaired}
 use mathlib.Core.Bool.{true, true≢false}
 use mathlib.Core.List.{List, [], ◌∷◌}
-use mathlib.Core.Path.{◌≡◌, ap, refl}
+use mathlib.Core.Path.{ap, refl, ◌≡◌}
 
 -- BEGIN, an OPEN from each station, A's altered in memory and B's returned
 abbrev two : List Todo

@@ -1,7 +1,7 @@
 -- What is said of lists by document 01's own step, and by the step before T-08, drawn from the theorems: sections and papers, on the way and at the end; and what is altered in
 -- an answer.
 -- Assumes nothing.
-use Prim.Native.Nat.{◌+◌, ◌<◌, ℕ}
+use Prim.Native.Nat.{ℕ, ◌+◌, ◌<◌}
 use Rattle.working.proofs.theorems.AsBefore.{answered_as_before}
 use Rattle.working.proofs.theorems.Guests.{answered_as_with_11}
 use Rattle.working.specs.Document01.{altered, followers_two, is_follower, step_of_01, with_second_figure}
@@ -18,8 +18,8 @@ use Rattle.working.specs.declared.Speed.TheVariants.{Both, Kmh}
 use Rattle.working.specs.declared.Station.TheVariants.{A, B}
 use Rattle.working.specs.declared.Stepped.{Stepped}
 use mathlib.Core.Bool.{Bool, false, true}
-use mathlib.Core.List.{List, [], ◌∷◌, map}
-use mathlib.Core.Path.{◌∙◌, ◌≡◌, ap, ap₂, refl}
+use mathlib.Core.List.{List, [], map, ◌∷◌}
+use mathlib.Core.Path.{ap, ap₂, refl, ◌∙◌, ◌≡◌}
 use native.Mathlib.Omega.{arith}
 
 -- ---- lists from fresh, of any length and in any form

@@ -1,13 +1,13 @@
 -- What is shown beside demand 3 of lists and of logs, drawn from the theorems, on any list, section or log: that no step reads 5, and what a train in the section says of line clears;
 -- that a step reads its first entry alone; and that a log is the list of its own entries.
 -- Assumes nothing.
-use Prim.Native.Nat.{◌+◌, ◌<◌, ℕ}
+use Prim.Native.Nat.{ℕ, ◌+◌, ◌<◌}
 use Rattle.working.proofs.examples.Computing.{step_computes}
 use Rattle.working.proofs.examples.Consequences.{handed}
 use Rattle.working.proofs.examples.Literals.{begin, opens}
 use Rattle.working.proofs.theorems.Corollaries.{last_train_owed, never_five, owing_above_asked, train_owed}
 use Rattle.working.proofs.theorems.FirstEntry.{answer_alone, first_alone}
-use Rattle.working.proofs.theorems.OwnBytes.{joined, own_as_with_11, own-demand3, own_join, own-results}
+use Rattle.working.proofs.theorems.OwnBytes.{joined, own-demand3, own-results, own_as_with_11, own_join}
 use Rattle.working.specs.Guests.{step_with_11}
 use Rattle.working.specs.Runs.{Done, Run, StepForm, end_by, results_of, steps_of}
 use Rattle.working.specs.Sections.{desk_of, fresh, nearest_at, number_at, other_at, vehicles_of}
@@ -23,7 +23,7 @@ use Rattle.working.specs.declared.Station.{Station}
 use lib.ListN.{length}
 use mathlib.Core.Bool.{false≢true, true}
 use mathlib.Core.List.{List, [], ◌++◌, ◌∷◌}
-use mathlib.Core.Path.{◌∙◌, ◌≡◌, ap, refl, sym}
+use mathlib.Core.Path.{ap, refl, sym, ◌∙◌, ◌≡◌}
 use native.Mathlib.Omega.{arith}
 
 -- ---- of a list from fresh
@@ -78,7 +78,8 @@ module _ (f : StepForm) (log : List ℕ) where
   -- line clears owed by each station, at its end
   owed_at_its_end : ended.force ≡ true → (x : Station)
       → (desk_of ended x).clears.owes
-      ≡ (desk_of ended (other_at x)).clears.holds + (desk_of ended (other_at x)).waiting + trains_of (steps_of f fresh log) ended (other_at x) + given_up_by ended (other_at x) + on_the_way_to ended (other_at x)
+      ≡ (desk_of ended (other_at x)).clears.holds + (desk_of ended (other_at x)).waiting + trains_of (steps_of f fresh log) ended (other_at x)
+      + given_up_by ended (other_at x) + on_the_way_to ended (other_at x)
   owed_at_its_end = (own-demand3 f log).owed
 
   -- it ends as before T-08

@@ -1,10 +1,10 @@
 -- What is shown of positions, drawn from the theorems: a section in force and one that is not, whatever their counts, written and read; bytes that are read; a step on a
 -- section's position, whatever numbers are lent; and speeds by their numbers.
 -- Assumes nothing.
-use Prim.Native.Nat.{◌≤◌, ℕ}
+use Prim.Native.Nat.{ℕ, ◌≤◌}
 use Rattle.working.proofs.examples.Computing.{step_computes}
 use Rattle.working.proofs.examples.Literals.{counts, figures, vehicle, working}
-use Rattle.working.proofs.theorems.Positions.{read_then_written, written_then_read, speeds_told, step_written}
+use Rattle.working.proofs.theorems.Positions.{read_then_written, speeds_told, step_written, written_then_read}
 use Rattle.working.specs.Positions.{StepsPosition, answer_in, is_position, position_of, refusal_of, section_at, speed_number}
 use Rattle.working.specs.Sections.{emptied, with_waiting}
 use Rattle.working.specs.Steps.{step_of}
@@ -14,9 +14,9 @@ use Rattle.working.specs.declared.Section.{Section}
 use Rattle.working.specs.declared.Speed.TheVariants.{Both, Kmh}
 use lib.Dec.{ltb}
 use lib.ListN.{length}
-use mathlib.Core.Bool.{◌&&◌, false, true}
+use mathlib.Core.Bool.{false, true, ◌&&◌}
 use mathlib.Core.List.{List, [], ◌∷◌}
-use mathlib.Core.Path.{◌∙◌, ◌≡◌, ap, refl, sym}
+use mathlib.Core.Path.{ap, refl, sym, ◌∙◌, ◌≡◌}
 use native.Mathlib.Omega.{arith}
 
 -- ---- a section written and read is the same section

@@ -1,8 +1,8 @@
 -- What each clause about lists of stores and fetches on one shelf says of calls that are written out, drawn from the theorem, over shelves, positions and buffers that nothing
 -- computes; and that there is such a list, from the empty shelf.
 -- Assumes nothing.
-use Prim.Native.Nat.{◌<◌, ℕ}
-use Rattle.working.proofs.laws.Stores.{StoreLeaves, fetch_of, room_empty, room-kept, room_second, store_given, store_leaves, zero_keeps}
+use Prim.Native.Nat.{ℕ, ◌<◌}
+use Rattle.working.proofs.laws.Stores.{StoreLeaves, fetch_of, room-kept, room_empty, room_second, store_given, store_leaves, zero_keeps}
 use Rattle.working.proofs.theorems.ShelfCalls.{shelf_calls_hold}
 use Rattle.working.specs.Entries.{pasted}
 use Rattle.working.specs.Positions.{is_position, same_bytes}
@@ -13,7 +13,7 @@ use lib.Dec.{eqb}
 use lib.ListN.{drop, get_or, length, take}
 use mathlib.Core.Bool.{false, not, true}
 use mathlib.Core.List.{List, [], ◌∷◌}
-use mathlib.Core.Path.{◌∙◌, ◌≡◌, ap, refl}
+use mathlib.Core.Path.{ap, refl, ◌∙◌, ◌≡◌}
 use native.Mathlib.Omega.{arith}
 
 -- ---- names

@@ -1,7 +1,7 @@
 -- What T-04 and T-07 say of the choices of a speed, drawn from the theorems: each of the three views in figures, and the order of each kind that departs, whatever its view, its
 -- desk and what it asks and grants.
 -- Assumes nothing.
-use Prim.Native.Nat.{◌%◌, ◌/◌, ℕ}
+use Prim.Native.Nat.{ℕ, ◌%◌, ◌/◌}
 use Rattle.working.proofs.examples.Literals.{with_sent}
 use Rattle.working.proofs.theorems.Speeds.{follower_speed_as_01, followers_have_two, tb602_speed_as_01}
 use Rattle.working.specs.Acts as acts
@@ -16,7 +16,7 @@ use Rattle.working.specs.declared.View.TheVariants.{Clear, Impaired, Night}
 use Rattle.working.specs.declared.View.{View}
 use lib.Dec.{eqb}
 use mathlib.Core.Bool.{Bool, false, true}
-use mathlib.Core.Path.{◌≡◌, refl}
+use mathlib.Core.Path.{refl, ◌≡◌}
 
 -- ---- the two choices, view by view
 

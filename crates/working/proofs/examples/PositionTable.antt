@@ -1,7 +1,7 @@
 -- T-06's 281 bytes, in figures: sections with the bytes that they are kept as, every figure at its place with a value of its own; bytes that are no position; the numbers of a
 -- speed; and steps on positions, with the order of 26 and 23. The bytes are docs/FORMAT.md's and written by hand, so that a misreading that definition and code share shows here.
 -- Assumes nothing.
-use Prim.Native.Nat.{◌+◌, ◌-◌, ℕ}
+use Prim.Native.Nat.{ℕ, ◌+◌, ◌-◌}
 use Rattle.working.proofs.examples.Computing.{positions_compute}
 use Rattle.working.proofs.examples.EntryTable.{below}
 use Rattle.working.proofs.examples.Literals.{counts, figures, vehicle, working}
@@ -17,9 +17,9 @@ use Rattle.working.specs.declared.Speed.TheVariants.{Booked, Both, Kmh, NoSpeed,
 use Rattle.working.specs.declared.Vehicle.{Vehicle}
 use lib.Dec.{eqb, leb, ltb}
 use lib.ListN.{drop, replicate, set, take}
-use mathlib.Core.Bool.{Bool, ◌&&◌, ◌||◌, cond, false, not, true}
-use mathlib.Core.List.{List, [], ◌++◌, ◌∷◌, map}
-use mathlib.Core.Path.{◌≡◌, refl}
+use mathlib.Core.Bool.{Bool, cond, false, not, true, ◌&&◌, ◌||◌}
+use mathlib.Core.List.{List, [], map, ◌++◌, ◌∷◌}
+use mathlib.Core.Path.{refl, ◌≡◌}
 
 -- ---- a section, and the bytes that it is kept as
 

@@ -1,7 +1,7 @@
 -- A reply sent ahead of the last train, T-02 on lists from fresh, for either station: it waits while the receiving station owes, and is held when the last train is in.
 -- Document 01 refused it with 16; and of a list that document 01 accepts throughout every answer is as before.
 -- Assumes nothing.
-use Prim.Native.Nat.{◌+◌, ◌<◌, ℕ}
+use Prim.Native.Nat.{ℕ, ◌+◌, ◌<◌}
 use Rattle.working.proofs.examples.Computing.{step_computes}
 use Rattle.working.proofs.examples.Consequences.{Owed, following, holding, list, owed}
 use Rattle.working.proofs.examples.Literals.{receive, train, train_granting}
@@ -20,7 +20,7 @@ use Rattle.working.specs.declared.Station.TheVariants.{A, B}
 use Rattle.working.specs.declared.Station.{Station}
 use mathlib.Core.Bool.{false, true}
 use mathlib.Core.List.{List, [], ◌++◌, ◌∷◌}
-use mathlib.Core.Path.{◌≡◌, refl}
+use mathlib.Core.Path.{refl, ◌≡◌}
 
 -- station x holds two line clears and is asked for three (Consequences). It sends the reply ahead, with the first of its two trains; the other receives that train while it
 -- owes the second, and then the second

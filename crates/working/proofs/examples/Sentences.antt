@@ -23,7 +23,7 @@ use Rattle.working.specs.declared.Whose.TheVariants.{NoStation}
 use Rattle.working.specs.declared.Written.TheVariants as written
 use mathlib.Core.Bool.{false, true}
 use mathlib.Core.List.{List, [], ◌∷◌}
-use mathlib.Core.Path.{◌≡◌, refl}
+use mathlib.Core.Path.{refl, ◌≡◌}
 
 -- a section that is not well made: a vehicle counted in an unused place
 abbrev ill : Section

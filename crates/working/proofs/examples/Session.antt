@@ -10,7 +10,7 @@ use Rattle.working.specs.declared.Refusal.TheVariants.{IntervalRunning}
 use Rattle.working.specs.declared.Section.{Section}
 use Rattle.working.specs.declared.Speed.TheVariants.{Booked, Both, Kmh, NoSpeed}
 use mathlib.Core.List.{List, [], ◌∷◌}
-use mathlib.Core.Path.{◌≡◌, refl}
+use mathlib.Core.Path.{refl, ◌≡◌}
 
 abbrev pub session : List ℕ
 session =

@@ -10,8 +10,8 @@ use Rattle.working.specs.Refusals.{first_of}
 use Rattle.working.specs.Shelves.{Fetches, Stores, fetch_tests, fetched_from, is_name, is_shelf, store_tests, stored_in}
 use lib.ListN.{replicate, set, take}
 use mathlib.Core.Bool.{false, true}
-use mathlib.Core.List.{List, [], ◌++◌, ◌∷◌, map}
-use mathlib.Core.Path.{◌≡◌, refl}
+use mathlib.Core.List.{List, [], map, ◌++◌, ◌∷◌}
+use mathlib.Core.Path.{refl, ◌≡◌}
 
 -- ---- "names of 1 to 12 capital letters"
 

@@ -9,7 +9,7 @@ use Rattle.working.specs.declared.Refusal.TheVariants.{AlreadyInForce, BeforeClo
 use Rattle.working.specs.declared.Refusal.TheVariants.{NoLineClear, NotInForce, NotNearest, OpenerAway, OutOfRange, OwesLineClear, UnknownKind, VehiclePresent, WrongMap}
 use Rattle.working.specs.declared.Speed.TheVariants.{Booked, Both, Kmh, NoSpeed, Walking}
 use mathlib.Core.List.{List, [], ◌∷◌}
-use mathlib.Core.Path.{◌≡◌, refl}
+use mathlib.Core.Path.{refl, ◌≡◌}
 
 abbrev log_0 : List ℕ
 log_0 =

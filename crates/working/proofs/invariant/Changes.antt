@@ -1,8 +1,8 @@
 -- What a step comes to, by cases, and that it leaves a well-made section well made, whatever the bytes.
 -- A refusal counts; BEGIN and RESUME empty the section; a departure puts a vehicle in at the station's end; a receipt takes one out there; MEET turns two.
 -- Assumes nothing.
-use Prim.Native.Nat.{◌<◌, suc, ℕ}
-use Rattle.working.proofs.invariant.Made.{Well, length-pad_to, made_of, well_arrive, well-insert, well_of}
+use Prim.Native.Nat.{suc, ℕ, ◌<◌}
+use Rattle.working.proofs.invariant.Made.{Well, length-pad_to, made_of, well-insert, well_arrive, well_of}
 use Rattle.working.proofs.invariant.Meeting.{redirect_left_on, well_redirect}
 use Rattle.working.proofs.invariant.Plans.{Departs, Fate, arrives, departs, fate, refuses}
 use Rattle.working.proofs.laws.Ranges.{Ranged, ranged_of}
@@ -28,7 +28,7 @@ use Rattle.working.specs.declared.Vehicle.{Vehicle}
 use lib.ListN.{length}
 use mathlib.Core.Bool.{Bool, false, false≢true, true}
 use mathlib.Core.List.{List, [], ◌∷◌}
-use mathlib.Core.Path.{◌≡◌, refl}
+use mathlib.Core.Path.{refl, ◌≡◌}
 use native.Mathlib.Omega.{arith}
 
 -- a section of 24 places that is well made; the places are what the array's type says

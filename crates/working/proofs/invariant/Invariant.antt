@@ -13,7 +13,7 @@
 -- A train is a TRAIN, endorsed as the last or not. Where one that is endorsed arrives, all that the station owes is that train and what it gives up (`all-owed`), so that
 -- "becomes 0" and the sum agree.
 -- Assumes nothing.
-use Prim.Native.Nat.{◌+◌, ◌-◌, ◌<◌, ℕ}
+use Prim.Native.Nat.{ℕ, ◌+◌, ◌-◌, ◌<◌}
 use Rattle.working.proofs.laws.Every.{Every, every-before, every_map}
 use Rattle.working.proofs.laws.Reasons.{OpenPasses, TrainPasses}
 use Rattle.working.proofs.laws.Tests.{clash, no_test, or_left, or_right, some_test, zero_test, zero_unless}
@@ -26,9 +26,9 @@ use Rattle.working.specs.declared.Movement.TheVariants.{LastTrain, Open, Return,
 use Rattle.working.specs.declared.Movement.{Movement}
 use borrow.Author.Tests.{eqb-true, lt-ltb, ltb-false, ltb-true}
 use lib.Dec.{eqb, ltb}
-use mathlib.Core.Bool.{Bool, ◌||◌, cond, false, false≢true, or-true, true, true≢false}
+use mathlib.Core.Bool.{Bool, cond, false, false≢true, or-true, true, true≢false, ◌||◌}
 use mathlib.Core.List.{List, [], ◌++◌, ◌∷◌}
-use mathlib.Core.Path.{◌∙◌, ◌≡◌, ap, ap₂, refl, sym}
+use mathlib.Core.Path.{ap, ap₂, refl, sym, ◌∙◌, ◌≡◌}
 use native.Mathlib.Omega.{arith}
 
 -- ---- the clauses

@@ -1,13 +1,13 @@
 -- Well made, seen from station x: its desk d, the other's o, the vehicles l. A vehicle that leaves x with the next form number, and one that is received at x, keep it so.
 -- Each clause is a law of the vehicles present; there is room for a twenty-fifth vehicle nowhere, since each station has sent at most twelve.
 -- Assumes nothing.
-use Prim.Native.Nat.{◌+◌, ◌-◌, ◌<◌, ◌≤◌, suc, zero, ℕ}
+use Prim.Native.Nat.{suc, zero, ℕ, ◌+◌, ◌-◌, ◌<◌, ◌≤◌}
 use Rattle.working.proofs.invariant.Plans.{Departs}
 use Rattle.working.proofs.invariant.Receipts.{Arrives, Receipt, arrives_far, arrives_own, arrives_replied, of_other, of_own, receipt}
 use Rattle.working.proofs.laws.Clauses.{DeskMade, MovementMade, Numbered, Shape, desk_of_lem, section-made, section_tests}
 use Rattle.working.proofs.laws.Every.{Every, every-all, every_map}
 use Rattle.working.proofs.laws.Tests.{and, both, clash, or_second}
-use Rattle.working.proofs.laws.Vehicles.{From, NotFrom, differ-insert, eqb_sym, every-end, every-insert, insert-length, not_other, not_own, ordered_far, ordered-own, sum-insert}
+use Rattle.working.proofs.laws.Vehicles.{From, NotFrom, differ-insert, eqb_sym, every-end, every-insert, insert-length, not_other, not_own, ordered-own, ordered_far, sum-insert}
 use Rattle.working.specs.Acts.{Act}
 use Rattle.working.specs.Effects.{Departing, arrive_desk, granted_in, replied}
 use Rattle.working.specs.Reasons.{may_enter}
@@ -22,9 +22,9 @@ use borrow.Author.Tests.{eq-eqb, eqb-true, ne_eqb}
 use lib.Dec.{eqb}
 use lib.ListN.{drop, length, take}
 use lib.Seq.{length-take-le}
-use mathlib.Core.Bool.{Bool, ◌&&◌, false, not, or-false, true}
+use mathlib.Core.Bool.{Bool, false, not, or-false, true, ◌&&◌}
 use mathlib.Core.List.{List, [], ◌∷◌}
-use mathlib.Core.Path.{◌∙◌, ◌≡◌, ap, refl, sym}
+use mathlib.Core.Path.{ap, refl, sym, ◌∙◌, ◌≡◌}
 use native.Mathlib.Omega.{arith}
 
 -- ---- well made, seen from station x: its desk d, the other's o

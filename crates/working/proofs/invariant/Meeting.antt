@@ -1,6 +1,6 @@
 -- MEET alters heading and met alone: every clause that reads neither stays, and the two vehicles, OPEN or THROUGH, stay well made.
 -- Assumes nothing.
-use Prim.Native.Nat.{◌+◌, suc, zero, ℕ}
+use Prim.Native.Nat.{suc, zero, ℕ, ◌+◌}
 use Rattle.working.proofs.invariant.Made.{Well}
 use Rattle.working.proofs.laws.Clauses.{DeskMade, Numbered, Shape}
 use Rattle.working.proofs.laws.Every.{Every}
@@ -14,9 +14,9 @@ use Rattle.working.specs.declared.Station.{Station}
 use Rattle.working.specs.declared.Vehicle.{Vehicle}
 use lib.Dec.{eqb}
 use lib.ListN.{get_or, length, set}
-use mathlib.Core.Bool.{Bool, ◌&&◌, ◌||◌, cond, not, true}
+use mathlib.Core.Bool.{Bool, cond, not, true, ◌&&◌, ◌||◌}
 use mathlib.Core.List.{List, [], ◌∷◌}
-use mathlib.Core.Path.{◌∙◌, ◌≡◌, ap, ap₂, refl}
+use mathlib.Core.Path.{ap, ap₂, refl, ◌∙◌, ◌≡◌}
 use native.Mathlib.Omega.{arith}
 
 module _ (z : Station) where

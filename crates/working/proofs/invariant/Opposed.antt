@@ -2,7 +2,7 @@
 -- A fast vehicle (RETURN or train) is unmet, so it heads away from its sender; by FRONT everything ahead of it is fast and of the same sender, so nothing ahead heads
 -- towards it. The same argument, seen from A and from B, serves the two vehicles.
 -- Assumes nothing.
-use Prim.Native.Nat.{◌-◌, ◌<◌, suc, zero, ℕ}
+use Prim.Native.Nat.{suc, zero, ℕ, ◌-◌, ◌<◌}
 use Rattle.working.proofs.invariant.Changes.{well_at}
 use Rattle.working.proofs.invariant.Invariant.{Ahead, Clear, InRow, OpenOrThrough, all_slow, cons_nil, no_far}
 use Rattle.working.proofs.invariant.Made.{other_sender}
@@ -24,7 +24,7 @@ use lib.Dec.{eqb}
 use lib.ListN.{get_or, length}
 use mathlib.Core.Bool.{Bool, cond, false, not, true}
 use mathlib.Core.List.{List, [], ◌∷◌}
-use mathlib.Core.Path.{◌∙◌, ◌≡◌, refl, sym}
+use mathlib.Core.Path.{refl, sym, ◌∙◌, ◌≡◌}
 use native.Mathlib.Omega.{arith}
 
 -- ---- the vehicles of station x in a list

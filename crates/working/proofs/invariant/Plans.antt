@@ -2,7 +2,7 @@
 -- is kept, and what stands beside it in a list that document 01 accepts, and that an OPEN or THROUGH leaves on T/B 602 at 15 km/h or less. The tests that passed say
 -- the rest.
 -- Assumes nothing.
-use Prim.Native.Nat.{◌%◌, ◌+◌, ◌<◌, ◌≤◌, ℕ}
+use Prim.Native.Nat.{ℕ, ◌%◌, ◌+◌, ◌<◌, ◌≤◌}
 use Rattle.working.proofs.invariant.Invariant.{Halves, hauled, is_open, kept_return, kept_slow, kept_train, uses}
 use Rattle.working.proofs.invariant.ReplyLast.{Allowed01, ReplyLast, replies_return, replies_slow, replies_train}
 use Rattle.working.proofs.laws.Clauses.{Bounds, Few, MovementMade, Shape}
@@ -32,10 +32,10 @@ use Rattle.working.specs.declared.View.TheVariants.{Clear, Impaired, Night}
 use Rattle.working.specs.declared.View.{View}
 use borrow.Author.Tests.{le-leb}
 use lib.Dec.{eqb, ltb}
-use mathlib.Core.Bool.{Bool, ◌&&◌, cond, false, false≢true, or-true, true}
+use mathlib.Core.Bool.{Bool, cond, false, false≢true, or-true, true, ◌&&◌}
 use mathlib.Core.List.{List, ◌++◌, ◌∷◌}
 use mathlib.Core.Option.{some}
-use mathlib.Core.Path.{◌≡◌, refl}
+use mathlib.Core.Path.{refl, ◌≡◌}
 use native.Mathlib.Omega.{arith}
 
 -- a departure p by act from station x, whose desk was d

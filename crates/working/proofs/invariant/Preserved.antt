@@ -6,8 +6,8 @@ use Rattle.working.proofs.invariant.Changes.{Change, Sound, arrival, change, dep
 use Rattle.working.proofs.invariant.Invariant.{Half, Halves, all_slow, quiet}
 use Rattle.working.proofs.invariant.Made.{Well, other_sender, vehicles_with}
 use Rattle.working.proofs.invariant.Plans.{Departs}
-use Rattle.working.proofs.invariant.Receipts.{Receipt, keeps_far, keeps-own, of_other, of_own, receipt}
-use Rattle.working.proofs.invariant.Sides.{moves_far, moves_met, moves_none, moves_own, moves_past, moves_skip, moves_of}
+use Rattle.working.proofs.invariant.Receipts.{Receipt, keeps-own, keeps_far, of_other, of_own, receipt}
+use Rattle.working.proofs.invariant.Sides.{moves_far, moves_met, moves_none, moves_of, moves_own, moves_past, moves_skip}
 use Rattle.working.proofs.laws.Clauses.{Shape}
 use Rattle.working.proofs.laws.Vehicles.{From, every-end, not_other, number_same, ordered_far}
 use Rattle.working.specs.Acts.{Act}
@@ -25,7 +25,7 @@ use Rattle.working.specs.declared.Stepped.{Stepped}
 use Rattle.working.specs.declared.Vehicle.{Vehicle}
 use mathlib.Core.Bool.{Bool, true}
 use mathlib.Core.List.{List, []}
-use mathlib.Core.Path.{◌≡◌, refl}
+use mathlib.Core.Path.{refl, ◌≡◌}
 
 -- the invariant seen from station x, whose desk is d, the other's o
 abbrev pub Between : Station → Desk → Desk → List Vehicle → Type 0

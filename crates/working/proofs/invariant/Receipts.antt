@@ -1,7 +1,7 @@
 -- What a receipt does to the desk, by what the vehicle left on: the figures stay in range, and the invariant is kept.
 -- Assumes nothing.
-use Prim.Native.Nat.{◌-◌, ◌≤◌, ℕ}
-use Rattle.working.proofs.invariant.Invariant.{Halves, kept_far, kept_guest, kept-own}
+use Prim.Native.Nat.{ℕ, ◌-◌, ◌≤◌}
+use Rattle.working.proofs.invariant.Invariant.{Halves, kept-own, kept_far, kept_guest}
 use Rattle.working.proofs.laws.Clauses.{Bounds, MovementMade}
 use Rattle.working.proofs.laws.Tests.{both, either_most}
 use Rattle.working.specs.Effects.{arrive_desk, granted_in, if_any, other_desk, own_desk, replied}
@@ -16,9 +16,9 @@ use Rattle.working.specs.declared.Movement.{Movement}
 use Rattle.working.specs.declared.Station.{Station}
 use Rattle.working.specs.declared.Vehicle.{Vehicle}
 use lib.Dec.{eqb, ltb}
-use mathlib.Core.Bool.{Bool, ◌&&◌, ◌||◌, cond, false, false≢true, not, true}
+use mathlib.Core.Bool.{Bool, cond, false, false≢true, not, true, ◌&&◌, ◌||◌}
 use mathlib.Core.List.{List, [], ◌++◌, ◌∷◌}
-use mathlib.Core.Path.{◌≡◌, refl}
+use mathlib.Core.Path.{refl, ◌≡◌}
 use native.Mathlib.Omega.{arith}
 
 -- ---- the desk's figures

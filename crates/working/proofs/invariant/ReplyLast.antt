@@ -1,7 +1,7 @@
 -- What stands beside the invariant in a list of which document 01's own step refuses none: nothing waits, a desk that holds a line clear owes none, and no vehicle
 -- grants any but the one nearest its sender. So whoever receives a grant owes nothing after it, and holds it at once, as in document 01.
 -- Assumes nothing.
-use Prim.Native.Nat.{◌-◌, ◌<◌, ◌≤◌, ℕ}
+use Prim.Native.Nat.{ℕ, ◌-◌, ◌<◌, ◌≤◌}
 use Rattle.working.proofs.invariant.Invariant.{Halves, all-owed, brings, far_holds, far_sum, granted, or_else, owed_over, own-sum, released, weigh_snoc}
 use Rattle.working.proofs.laws.Reasons.{OpenPasses, TrainPasses}
 use Rattle.working.proofs.laws.Tests.{zero_unless}
@@ -15,7 +15,7 @@ use Rattle.working.specs.declared.Movement.{Movement}
 use lib.ListN.{drop}
 use mathlib.Core.Bool.{Bool, false, true}
 use mathlib.Core.List.{List, [], ◌++◌, ◌∷◌}
-use mathlib.Core.Path.{◌∙◌, ◌≡◌, ap, refl}
+use mathlib.Core.Path.{ap, refl, ◌∙◌, ◌≡◌}
 use native.Mathlib.Omega.{arith}
 
 -- a station's desk d, and what its vehicles left on, nearest it first

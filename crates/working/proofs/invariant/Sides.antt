@@ -1,7 +1,7 @@
 -- What each station's vehicles left on, nearest their sender first: the lists that the invariant is stated over.
 -- The vehicles are seen from a station: as they stand from A, the other way round from B. Only the laws of `seen_from` split on the station.
 -- Assumes nothing.
-use Prim.Native.Nat.{◌+◌, ◌-◌, ◌<◌, suc, zero, ℕ}
+use Prim.Native.Nat.{suc, zero, ℕ, ◌+◌, ◌-◌, ◌<◌}
 use Rattle.working.proofs.invariant.Invariant.{weigh, weigh_snoc}
 use Rattle.working.proofs.laws.Every.{Every, every_add}
 use Rattle.working.proofs.laws.Vehicles.{From, NotFrom, not_own}
@@ -13,11 +13,11 @@ use Rattle.working.specs.declared.Movement.{Movement}
 use Rattle.working.specs.declared.Station.TheVariants.{A, B}
 use Rattle.working.specs.declared.Station.{Station}
 use Rattle.working.specs.declared.Vehicle.{Vehicle}
-use lib.ListN.{get_or-append, get_or, length, length-reverse}
+use lib.ListN.{get_or, get_or-append, length, length-reverse}
 use lib.Seq.{get_or_at}
 use mathlib.Core.Bool.{Bool, cond, false, true}
-use mathlib.Core.List.{List, [], ◌++◌, ◌∷◌, append-nil, reverse, reverse-append, reverse-cons, reverse-reverse}
-use mathlib.Core.Path.{◌∙◌, ◌≡◌, ap, refl, subst, sym}
+use mathlib.Core.List.{List, [], append-nil, reverse, reverse-append, reverse-cons, reverse-reverse, ◌++◌, ◌∷◌}
+use mathlib.Core.Path.{ap, refl, subst, sym, ◌∙◌, ◌≡◌}
 use native.Mathlib.Omega.{arith}
 
 abbrev pub seen_from : {T : Type 0} → Station → List T → List T

@@ -2,7 +2,7 @@
 -- Each reads and alters its own desk and its own end of the section. They could meet only with one vehicle in it: a departure into an empty section and its receipt
 -- at the other end, which is excluded, or two receipts of one vehicle, of which the second would be refused. It holds on every well-made section.
 -- Assumes nothing.
-use Prim.Native.Nat.{◌+◌, ◌<◌, ◌≤◌, ℕ}
+use Prim.Native.Nat.{ℕ, ◌+◌, ◌<◌, ◌≤◌}
 use Rattle.working.proofs.invariant.Changes.{Sound, named_there, sound_step, step_is, well_at}
 use Rattle.working.proofs.invariant.Made.{room_of, vehicles_after}
 use Rattle.working.proofs.invariant.Plans.{Fate, arrives, departs, fate, refuses}
@@ -32,7 +32,7 @@ use lib.Dec.{eqb}
 use lib.ListN.{length}
 use mathlib.Core.Bool.{Bool, false, false≢true, true}
 use mathlib.Core.List.{List, [], ◌∷◌}
-use mathlib.Core.Path.{◌∙◌, ◌≡◌, ap, ap₂, refl, sym}
+use mathlib.Core.Path.{ap, ap₂, refl, sym, ◌∙◌, ◌≡◌}
 use native.Mathlib.Omega.{arith}
 
 pub data Opposite : Station → Station → Type 0 where

@@ -1,12 +1,12 @@
 -- Each vehicle present has its departure in the list of steps, of the kind that its record says; an OPEN or THROUGH left on T/B 602 at 15 km/h or less.
 -- A step that is no accepted departure adds none; one that is takes a form number that no vehicle present has.
 -- Assumes nothing.
-use Prim.Native.Nat.{◌+◌, suc, ℕ}
+use Prim.Native.Nat.{suc, ℕ, ◌+◌}
 use Rattle.working.proofs.invariant.Changes.{Change, Sound, arrival, departure, emptying, meeting, refusal, well_at}
 use Rattle.working.proofs.invariant.Invariant.{owed_over, train_one, weigh}
 use Rattle.working.proofs.invariant.Made.{vehicles_after, vehicles_with}
 use Rattle.working.proofs.invariant.Plans.{Departs}
-use Rattle.working.proofs.invariant.Sides.{moves_weight, moves_of}
+use Rattle.working.proofs.invariant.Sides.{moves_of, moves_weight}
 use Rattle.working.proofs.laws.Clauses.{Numbered}
 use Rattle.working.proofs.laws.Every.{Every, every_map}
 use Rattle.working.proofs.laws.Vehicles.{eqb_sym, every-end, every-insert, every_redirect, number_same}
@@ -27,10 +27,10 @@ use Rattle.working.specs.declared.Stepped.{Stepped}
 use Rattle.working.specs.declared.Vehicle.{Vehicle}
 use borrow.Author.Tests.{eq-eqb, ne_eqb}
 use lib.Dec.{eqb}
-use mathlib.Core.Bool.{Bool, ◌&&◌, cond, false, true}
+use mathlib.Core.Bool.{Bool, cond, false, true, ◌&&◌}
 use mathlib.Core.List.{List, [], ◌++◌, ◌∷◌}
 use mathlib.Core.Option.{Option, none, some}
-use mathlib.Core.Path.{◌∙◌, ◌≡◌, ap, ap₂, refl, sym}
+use mathlib.Core.Path.{ap, ap₂, refl, sym, ◌∙◌, ◌≡◌}
 use native.Mathlib.Omega.{arith}
 
 -- ---- a vehicle and its departure

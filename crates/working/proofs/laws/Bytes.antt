@@ -1,12 +1,12 @@
 -- A number in so many bytes, high byte first, and back: each is the other's inverse, at every width.
 -- The last byte is the remainder by 256, and the bytes before it are those of the quotient.
 -- Assumes nothing.
-use Prim.Native.Nat.{◌%◌, ◌*◌, ◌+◌, ◌/◌, ◌<◌, ◌^◌, ◌≤◌, suc, zero, ℕ}
+use Prim.Native.Nat.{suc, zero, ℕ, ◌%◌, ◌*◌, ◌+◌, ◌/◌, ◌<◌, ◌^◌, ◌≤◌}
 use Rattle.working.specs.Entries.{AreBytes, high_first, onward, value_of}
 use lib.ListN.{drop, get_or, length, length-append, take}
 use lib.Seq.{get_or-drop, take-suc}
 use mathlib.Core.List.{List, [], ◌++◌, ◌∷◌}
-use mathlib.Core.Path.{◌∙◌, ◌≡◌, ap, refl}
+use mathlib.Core.Path.{ap, refl, ◌∙◌, ◌≡◌}
 use native.Mathlib.Omega.{arith}
 
 pub onward-append : (n : ℕ) (a b : List ℕ) → onward n (a ++ b) ≡ onward (onward n a) b

@@ -1,6 +1,6 @@
 -- Well made, clause by clause: each list of tests of specs/WellMade as a record that names them, and back.
 -- Assumes nothing.
-use Prim.Native.Nat.{◌≤◌, ℕ}
+use Prim.Native.Nat.{ℕ, ◌≤◌}
 use Rattle.working.proofs.laws.Every.{Every, all-every, every-all}
 use Rattle.working.proofs.laws.Tests.{Each, and, both, each_holds, every_holds}
 use Rattle.working.specs.Entries.{every}
@@ -17,9 +17,9 @@ use Rattle.working.specs.declared.Vehicle.{Vehicle}
 use borrow.Author.Tests.{eq-eqb, eqb-true, le-leb, leb-true, not-true}
 use lib.Dec.{eqb, leb}
 use lib.ListN.{drop}
-use mathlib.Core.Bool.{Bool, ◌&&◌, ◌||◌, false, false≢true, not, true}
+use mathlib.Core.Bool.{Bool, false, false≢true, not, true, ◌&&◌, ◌||◌}
 use mathlib.Core.List.{List, [], ◌∷◌}
-use mathlib.Core.Path.{◌≡◌, refl}
+use mathlib.Core.Path.{refl, ◌≡◌}
 use native.Mathlib.Omega.{arith}
 
 -- ---- what a vehicle left on

@@ -2,7 +2,7 @@
 -- it should be leaves a count as it is, or adds 1 where it refuses and the step is theirs; a log has no more entries than bytes, so that no count would go past its largest
 -- value.
 -- Assumes nothing.
-use Prim.Native.Nat.{◌+◌, ◌≤◌, ℕ}
+use Prim.Native.Nat.{ℕ, ◌+◌, ◌≤◌}
 use Rattle.working.proofs.laws.Turns.{entries_by, refused_by, turns_by, turns_few}
 use Rattle.working.specs.Entries.{read_at}
 use Rattle.working.specs.Sections.{count_of, is_same, none_refused, one_more, one_more_of}
@@ -16,9 +16,9 @@ use Rattle.working.specs.declared.Whose.TheVariants.{NoStation, Of}
 use Rattle.working.specs.declared.Whose.{Whose}
 use borrow.Author.Tests.{lt-ltb}
 use lib.ListN.{length}
-use mathlib.Core.Bool.{Bool, ◌&&◌, cond, false, not, true}
+use mathlib.Core.Bool.{Bool, cond, false, not, true, ◌&&◌}
 use mathlib.Core.List.{List}
-use mathlib.Core.Path.{◌∙◌, ◌≡◌, ap, refl}
+use mathlib.Core.Path.{ap, refl, ◌∙◌, ◌≡◌}
 use native.Mathlib.Omega.{arith}
 
 -- ---- the three counts

@@ -1,13 +1,13 @@
 -- A statement about every element of a list; and a test that holds of every vehicle, as such a statement and back.
 -- Assumes nothing.
-use Prim.Native.Nat.{◌<◌, suc, zero, ℕ}
+use Prim.Native.Nat.{suc, zero, ℕ, ◌<◌}
 use Rattle.working.proofs.laws.Tests.{and, both}
 use Rattle.working.specs.WellMade.{all}
 use Rattle.working.specs.declared.Vehicle.{Vehicle}
 use lib.ListN.{get_or, length}
 use mathlib.Core.Bool.{Bool, true}
 use mathlib.Core.List.{List, [], ◌++◌, ◌∷◌}
-use mathlib.Core.Path.{◌≡◌, refl}
+use mathlib.Core.Path.{refl, ◌≡◌}
 use native.Mathlib.Omega.{arith}
 
 abbrev pub Every : {T : Type 0} → (T → Type 0) → List T → Type 0

@@ -27,9 +27,9 @@ use Rattle.working.specs.declared.Verdict.TheVariants.{Allowed, Refused}
 use Rattle.working.specs.declared.Verdict.{Verdict}
 use borrow.Author.Tests.{not-true}
 use lib.ListN.{drop}
-use mathlib.Core.Bool.{Bool, ◌&&◌, false, not, true}
+use mathlib.Core.Bool.{Bool, false, not, true, ◌&&◌}
 use mathlib.Core.List.{List, [], ◌∷◌}
-use mathlib.Core.Path.{◌≡◌, refl}
+use mathlib.Core.Path.{refl, ◌≡◌}
 
 -- ---- a list of tests
 

@@ -1,7 +1,7 @@
 -- A well-made section is its own vehicles padded: the places past those in use are blank, and a blank place is the unused one. And vehicles stored one behind another are
 -- those places.
 -- Assumes nothing.
-use Prim.Native.Nat.{◌+◌, ◌<◌, suc, zero, ℕ}
+use Prim.Native.Nat.{suc, zero, ℕ, ◌+◌, ◌<◌}
 use Rattle.working.proofs.invariant.Made.{length_vehicles}
 use Rattle.working.proofs.laws.Clauses.{blank-made, section-made}
 use Rattle.working.proofs.laws.Tests.{both}
@@ -13,7 +13,7 @@ use lib.ListN.{drop, get_or, length, set, take}
 use lib.Seq.{length-take-le, take-suc}
 use mathlib.Core.Bool.{true}
 use mathlib.Core.List.{List, [], ◌++◌, ◌∷◌}
-use mathlib.Core.Path.{◌∙◌, ◌≡◌, ap, ap₂, refl, sym}
+use mathlib.Core.Path.{ap, ap₂, refl, sym, ◌∙◌, ◌≡◌}
 use native.Mathlib.Numerals.{add-one}
 use native.Mathlib.Omega.{arith}
 

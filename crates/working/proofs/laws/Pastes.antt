@@ -1,11 +1,11 @@
 -- Two pastes, the second behind the first, are one.
 -- Assumes nothing.
-use Prim.Native.Nat.{◌+◌, ◌≤◌, ℕ}
+use Prim.Native.Nat.{ℕ, ◌+◌, ◌≤◌}
 use Rattle.working.specs.Entries.{pasted}
 use lib.ListN.{drop, length, length-append, take}
-use lib.Seq.{drop_at, drop-drop, length-take-le, take_at}
-use mathlib.Core.List.{List, ◌++◌, append_assoc}
-use mathlib.Core.Path.{◌∙◌, ◌≡◌, sym}
+use lib.Seq.{drop-drop, drop_at, length-take-le, take_at}
+use mathlib.Core.List.{List, append_assoc, ◌++◌}
+use mathlib.Core.Path.{sym, ◌∙◌, ◌≡◌}
 use native.Mathlib.Nat.{add_assoc}
 use native.Mathlib.Omega.{arith}
 

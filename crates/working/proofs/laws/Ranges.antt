@@ -2,7 +2,7 @@
 -- its station tell whose it is, the station of an entry that either table takes.
 -- The kind fixes which bits stand, and a field that is there lies in its range, while one that is absent is 0.
 -- Assumes nothing.
-use Prim.Native.Nat.{◌+◌, ◌≤◌, ℕ}
+use Prim.Native.Nat.{ℕ, ◌+◌, ◌≤◌}
 use Rattle.working.proofs.laws.Clauses.{Carried, Few}
 use Rattle.working.proofs.laws.Found.{read_by}
 use Rattle.working.proofs.laws.Judged.{taken}
@@ -25,9 +25,9 @@ use Rattle.working.specs.declared.Whose.TheVariants.{NoStation, Of}
 use Rattle.working.specs.declared.Whose.{Whose}
 use borrow.Author.Tests.{eqb-false, eqb-true, leb-true, not-true}
 use lib.Dec.{eqb, leb}
-use mathlib.Core.Bool.{Bool, ◌&&◌, ◌||◌, cond, false, false≢true, not, true}
+use mathlib.Core.Bool.{Bool, cond, false, false≢true, not, true, ◌&&◌, ◌||◌}
 use mathlib.Core.List.{List, [], ◌∷◌}
-use mathlib.Core.Path.{◌≡◌, refl, subst}
+use mathlib.Core.Path.{refl, subst, ◌≡◌}
 use native.Mathlib.Omega.{arith}
 
 -- ---- the act by name

@@ -1,6 +1,6 @@
 -- What is known where no reason applies: each list of tests of specs/Reasons as a record that names what later proofs use of it.
 -- Assumes nothing.
-use Prim.Native.Nat.{◌<◌, suc, ℕ}
+use Prim.Native.Nat.{suc, ℕ, ◌<◌}
 use Rattle.working.proofs.laws.Tests.{NoneHolds, each_holds, no_test, none_of_both, or_right, some_test}
 use Rattle.working.specs.Reasons.{depart_tests, is_named, last_tests, may_enter, may_meet, meet_tests, meeting_tests, open_tests, receive_tests, return_tests, station_tests, train_tests}
 use Rattle.working.specs.Refusals.{Test}
@@ -13,7 +13,7 @@ use Rattle.working.specs.declared.Vehicle.{Vehicle}
 use borrow.Author.Tests.{leb-false, lt-ltb, not-false}
 use lib.Dec.{ltb}
 use lib.ListN.{get_or}
-use mathlib.Core.Bool.{Bool, ◌&&◌, false, true}
+use mathlib.Core.Bool.{Bool, false, true, ◌&&◌}
 use mathlib.Core.List.{List, ◌++◌}
 use mathlib.Core.Path.{◌≡◌}
 use native.Mathlib.Numerals.{add-one}

@@ -8,7 +8,7 @@ use Rattle.working.specs.declared.Verdict.TheVariants.{Allowed, Refused}
 use Rattle.working.specs.declared.Verdict.{Verdict}
 use mathlib.Core.Bool.{Bool, false, true}
 use mathlib.Core.List.{List, [], ◌++◌, ◌∷◌}
-use mathlib.Core.Path.{◌∙◌, ◌≡◌, refl}
+use mathlib.Core.Path.{refl, ◌∙◌, ◌≡◌}
 
 -- what holds of each refusal, and of an entry that is allowed where no test holds, holds of what the scan finds
 pub scanned : (P : Verdict → Type 0) (tests : List Test) → ((why : Refusal) → P (Refused why)) → (NoneHolds tests → P Allowed) → P (first_of tests)

@@ -3,7 +3,7 @@
 -- a fetch gives what is kept there; and a store leaves a shelf laid out, with the name among its names and what is stored kept under it. All go by induction over the
 -- places, each of 293 bytes at the front of those behind it. A title tells its name, since no letter is 0.
 -- Assumes nothing.
-use Prim.Native.Nat.{◌*◌, ◌+◌, ◌≤◌, suc, zero, ℕ}
+use Prim.Native.Nat.{suc, zero, ℕ, ◌*◌, ◌+◌, ◌≤◌}
 use Rattle.working.proofs.invariant.Made.{front_padded, length_padded}
 use Rattle.working.proofs.laws.Every.{Every, every_map}
 use Rattle.working.proofs.laws.Tests.{and, both, clash, each_holds, every_holds}
@@ -17,8 +17,8 @@ use lib.Dec.{eqb, eqb-suc-suc, leb}
 use lib.ListN.{drop, length, length-append, length-replicate, replicate, take}
 use lib.Seq.{drop-append-add, drop_at, get_or-append-add, take-append-add, take_at}
 use mathlib.Core.Bool.{Bool, cond, false, false≢true, not, or-false, or-true, true, true≢false}
-use mathlib.Core.List.{List, [], ◌++◌, ◌∷◌, append_assoc}
-use mathlib.Core.Path.{◌∙◌, ◌≡◌, ap, ap₂, refl, subst, sym}
+use mathlib.Core.List.{List, [], append_assoc, ◌++◌, ◌∷◌}
+use mathlib.Core.Path.{ap, ap₂, refl, subst, sym, ◌∙◌, ◌≡◌}
 use native.Mathlib.Omega.{arith}
 
 -- ---- names

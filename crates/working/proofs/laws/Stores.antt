@@ -3,7 +3,7 @@
 -- and leaves every other place as it was: so the shelf stays one, the position stored is read under its own name, under every other name what was read before, and no used
 -- place has another title. All go by induction over the places, each of 293 bytes at the front of those behind it. A title tells its name, since no letter is 0.
 -- Assumes nothing.
-use Prim.Native.Nat.{◌*◌, ◌+◌, ◌≤◌, suc, zero, ℕ}
+use Prim.Native.Nat.{suc, zero, ℕ, ◌*◌, ◌+◌, ◌≤◌}
 use Rattle.working.proofs.invariant.Made.{length_padded}
 use Rattle.working.proofs.laws.Scans.{scanned_each}
 use Rattle.working.proofs.laws.Shelves.{same_title, same_when, spelt, title_made}
@@ -19,12 +19,12 @@ use Rattle.working.specs.declared.Verdict.TheVariants.{Allowed, Refused}
 use Rattle.working.specs.declared.Verdict.{Verdict}
 use borrow.Author.Tests.{eq-eqb, eqb-true, le-ltb, leb-true, ne_eqb, not-false, not-true}
 use lib.Dec.{eqb, eqb-suc-suc, leb, ltb}
-use lib.ListN.{get_or-eq_default, drop, length, length-append, length-drop, length-replicate, replicate, take, take-append-drop}
+use lib.ListN.{drop, get_or-eq_default, length, length-append, length-drop, length-replicate, replicate, take, take-append-drop}
 use lib.Seq.{drop-append-add, drop_at, get_or-append-add, length-take-le, take-add, take-append-add, take_at}
-use mathlib.Core.Bool.{Bool, ◌&&◌, cond, false, false≢true, not, or-true, true, true≢false}
-use mathlib.Core.List.{List, [], ◌++◌, ◌∷◌, append_assoc}
+use mathlib.Core.Bool.{Bool, cond, false, false≢true, not, or-true, true, true≢false, ◌&&◌}
+use mathlib.Core.List.{List, [], append_assoc, ◌++◌, ◌∷◌}
 use mathlib.Core.Option.{Option, none, some}
-use mathlib.Core.Path.{◌∙◌, ◌≡◌, ap, refl, subst, sym}
+use mathlib.Core.Path.{ap, refl, subst, sym, ◌∙◌, ◌≡◌}
 use native.Mathlib.Omega.{arith}
 
 -- ---- names

@@ -1,6 +1,6 @@
 -- Tests: what a conjunction, a disjunction, a comparison with 0 and a list of tests say of their parts; and that a list gives no refusal of a number which none of its tests has.
 -- Assumes nothing.
-use Prim.Native.Nat.{◌<◌, ◌≤◌, ℕ}
+use Prim.Native.Nat.{ℕ, ◌<◌, ◌≤◌}
 use Rattle.working.specs.Entries.{every}
 use Rattle.working.specs.Refusals.{Test, first_of, number_of, or_else}
 use Rattle.working.specs.declared.Refusal.{Refusal}
@@ -8,9 +8,9 @@ use Rattle.working.specs.declared.Verdict.TheVariants.{Allowed, Refused}
 use Rattle.working.specs.declared.Verdict.{Verdict}
 use borrow.Author.Tests.{eqb-false, le-ltb, ltb-false}
 use lib.Dec.{eqb, ltb}
-use mathlib.Core.Bool.{Bool, ◌&&◌, ◌||◌, cond, false, false≢true, not, true, true≢false}
+use mathlib.Core.Bool.{Bool, cond, false, false≢true, not, true, true≢false, ◌&&◌, ◌||◌}
 use mathlib.Core.List.{List, [], ◌++◌, ◌∷◌}
-use mathlib.Core.Path.{◌∙◌, ◌≡◌, refl, sym}
+use mathlib.Core.Path.{refl, sym, ◌∙◌, ◌≡◌}
 use native.Mathlib.Omega.{arith}
 
 -- ---- two tests

@@ -1,8 +1,8 @@
 -- The vehicles present and their two ends. Every law is stated of `insert_at x v l`, so that it serves both stations, a departure forwards and a receipt backwards.
 -- By cases on the station, A at the front of the list and B at its back.
 -- Assumes nothing.
-use Prim.Native.Nat.{◌+◌, ◌-◌, ◌<◌, ◌≤◌, suc, zero, ℕ}
-use Rattle.working.proofs.laws.Every.{Every, all-every, every_add, every-before}
+use Prim.Native.Nat.{suc, zero, ℕ, ◌+◌, ◌-◌, ◌<◌, ◌≤◌}
+use Rattle.working.proofs.laws.Every.{Every, all-every, every-before, every_add}
 use Rattle.working.proofs.laws.Tests.{both, clash}
 use Rattle.working.specs.Sections.{insert_at, nearest_at, number_at, other_at, remove_at, unused}
 use Rattle.working.specs.Steps.{redirect_at, redirected}
@@ -14,9 +14,9 @@ use borrow.Author.Tests.{eq-eqb, eqb-false, eqb-true, ne_eqb}
 use lib.Dec.{eqb}
 use lib.ListN.{length, length-append, length-drop, length-take}
 use lib.Seq.{get_or-append_seam, take-append_seam}
-use mathlib.Core.Bool.{Bool, ◌&&◌, cond, false, not, true}
+use mathlib.Core.Bool.{Bool, cond, false, not, true, ◌&&◌}
 use mathlib.Core.List.{List, [], ◌++◌, ◌∷◌}
-use mathlib.Core.Path.{◌∙◌, ◌≡◌, ap, ap₂, refl, sym}
+use mathlib.Core.Path.{ap, ap₂, refl, sym, ◌∙◌, ◌≡◌}
 use native.Mathlib.Omega.{arith}
 
 -- ---- the stations' numbers

@@ -5,14 +5,14 @@
 -- (`ReplyLast`); there is no entry of kind 9, since document 01 refuses each with 2 (`KindNine`); a follower's speed is document 01's with 10 beside it, view by view
 -- (`train_speed_lem`); and a RETURN which document 01 lets go has passed every test that is left.
 -- Assumes nothing.
-use Prim.Native.Nat.{◌<◌, ℕ}
+use Prim.Native.Nat.{ℕ, ◌<◌}
 use Rattle.working.proofs.invariant.Changes.{Change, arrival, change, departure, emptying, meeting, named_there, refusal, step_is, well_at}
 use Rattle.working.proofs.invariant.Invariant.{Halves, far_holds}
 use Rattle.working.proofs.invariant.Made.{Well, other_sender, vehicles_with}
 use Rattle.working.proofs.invariant.Preserved.{Between, Good, good_emptied, good_step, kept_at}
 use Rattle.working.proofs.invariant.Receipts.{Receipt, nothing_replied, of_other, of_own, receipt}
 use Rattle.working.proofs.invariant.ReplyLast.{Allowed01, ReplyLast, near_rest, paid, replies_far}
-use Rattle.working.proofs.invariant.Sides.{moves_far, moves_met, moves_none, moves_own, moves_past, moves_skip, moves_of}
+use Rattle.working.proofs.invariant.Sides.{moves_far, moves_met, moves_none, moves_of, moves_own, moves_past, moves_skip}
 use Rattle.working.proofs.laws.Clauses.{Shape}
 use Rattle.working.proofs.laws.Lists.{ListAs, each_result, next_as, step_did}
 use Rattle.working.proofs.laws.Reasons.{depart_passes, receive_passes}
@@ -48,9 +48,9 @@ use Rattle.working.specs.declared.View.TheVariants.{Clear, Impaired, Night}
 use Rattle.working.specs.declared.View.{View}
 use borrow.Author.Tests.{lt-ltb, ltb-false, ltb-true}
 use lib.Dec.{eqb, ltb}
-use mathlib.Core.Bool.{Bool, ◌&&◌, and-false, cond, false, false≢true, not, true}
+use mathlib.Core.Bool.{Bool, and-false, cond, false, false≢true, not, true, ◌&&◌}
 use mathlib.Core.List.{List, [], ◌++◌, ◌∷◌}
-use mathlib.Core.Path.{◌∙◌, ◌≡◌, ap, refl, sym}
+use mathlib.Core.Path.{ap, refl, sym, ◌∙◌, ◌≡◌}
 
 -- what stands beside the invariant, seen from station x, whose desk is d, the other's o
 pub record RepliesLast (x : Station) (d o : Desk) (l : List Vehicle) : Type 0 where

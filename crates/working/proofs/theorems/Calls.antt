@@ -3,7 +3,7 @@
 -- history leads to and with the call that stored it last. Every history leads to a well-made section, so that every position on the way reads and every shelf is one: no call
 -- is answered 5 or 26, a step is answered by the step on that section, and what is fetched was stored. The list grows at its end, and with it what is kept of it.
 -- Assumes nothing.
-use Prim.Native.Nat.{◌+◌, ◌≤◌, ℕ}
+use Prim.Native.Nat.{ℕ, ◌+◌, ◌≤◌}
 use Rattle.working.proofs.invariant.Changes.{Sound}
 use Rattle.working.proofs.laws.Every.{Every, every_map}
 use Rattle.working.proofs.laws.Lists.{step_by}
@@ -28,9 +28,9 @@ use Rattle.working.specs.declared.Verdict.{Verdict}
 use borrow.Author.Tests.{ltb-false, ne_eqb, not-false, not-true}
 use lib.Dec.{eqb}
 use lib.ListN.{drop, drop_of_length-le, length, length-take, take, take-append-drop}
-use mathlib.Core.Bool.{Bool, ◌&&◌, and-false, false, false≢true, not, true}
-use mathlib.Core.List.{List, [], ◌++◌, ◌∷◌, append_assoc, append-nil}
-use mathlib.Core.Path.{◌∙◌, ◌≡◌, ap, ap₂, refl, sym}
+use mathlib.Core.Bool.{Bool, and-false, false, false≢true, not, true, ◌&&◌}
+use mathlib.Core.List.{List, [], append-nil, append_assoc, ◌++◌, ◌∷◌}
+use mathlib.Core.Path.{ap, ap₂, refl, sym, ◌∙◌, ◌≡◌}
 use native.Mathlib.Omega.{arith}
 
 -- ---- a history

@@ -3,11 +3,11 @@
 -- where that train is endorsed as the last, it and what it gives up are all that the station owes, so that "becomes 0" takes off nothing else;
 -- and a station that holds line clears and owes some is asked for none, so that a TRAIN's grant while it owes is above what is asked: that half of 16 never decides alone.
 -- Assumes nothing.
-use Prim.Native.Nat.{◌+◌, ◌<◌, ℕ}
+use Prim.Native.Nat.{ℕ, ◌+◌, ◌<◌}
 use Rattle.working.proofs.invariant.Changes.{step_is, well_at}
 use Rattle.working.proofs.invariant.Invariant.{Halves, all-owed, is_last, owed_for, owed_over, train_one, weigh_snoc}
 use Rattle.working.proofs.invariant.Preserved.{kept_at}
-use Rattle.working.proofs.invariant.Sides.{moves_far, moves_none, moves_skip, moves_of}
+use Rattle.working.proofs.invariant.Sides.{moves_far, moves_none, moves_of, moves_skip}
 use Rattle.working.proofs.laws.Found.{Found, cut, found, the_end, whole}
 use Rattle.working.proofs.laws.Lists.{split_run, step_did}
 use Rattle.working.proofs.laws.Tests.{IsNot, first_is_not, is_not, none_is}
@@ -41,7 +41,7 @@ use Rattle.working.specs.declared.Verdict.{Verdict}
 use lib.ListN.{length}
 use mathlib.Core.Bool.{Bool, false≢true, true}
 use mathlib.Core.List.{List, [], ◌++◌, ◌∷◌}
-use mathlib.Core.Path.{◌∙◌, ◌≡◌, ap, refl}
+use mathlib.Core.Path.{ap, refl, ◌∙◌, ◌≡◌}
 use native.Mathlib.Omega.{arith}
 
 -- ---- no step is refused with 5

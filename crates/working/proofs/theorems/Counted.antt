@@ -3,7 +3,7 @@
 -- Assumes nothing.
 use Prim.Native.Nat.{ℕ}
 use Rattle.working.proofs.invariant.Changes.{Change, Sound, arrival, change, departure, emptying, meeting, refusal, sound_emptied, sound_step}
-use Rattle.working.proofs.laws.Counts.{counted_from, counted_for}
+use Rattle.working.proofs.laws.Counts.{counted_for, counted_from}
 use Rattle.working.proofs.laws.Turns.{entries-sum}
 use Rattle.working.proofs.theorems.FirstEntry.{says_there}
 use Rattle.working.specs.Entries.{read_at}
@@ -23,7 +23,7 @@ use Rattle.working.specs.declared.Whose.{Whose}
 use lib.ListN.{drop}
 use mathlib.Core.Bool.{false}
 use mathlib.Core.List.{List}
-use mathlib.Core.Path.{◌≡◌, refl}
+use mathlib.Core.Path.{refl, ◌≡◌}
 use native.Mathlib.Omega.{arith}
 
 -- ---- one step

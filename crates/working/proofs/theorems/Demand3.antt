@@ -2,7 +2,7 @@
 -- After each step the section is well made, the invariant holds, and every vehicle present has its departure in the list so far; the claims at the end follow
 -- from these. Two neighbours change places because each reads and alters only its own desk and its own end of the section.
 -- Assumes nothing.
-use Prim.Native.Nat.{◌+◌, ◌<◌, ℕ}
+use Prim.Native.Nat.{ℕ, ◌+◌, ◌<◌}
 use Rattle.working.proofs.invariant.Changes.{change}
 use Rattle.working.proofs.invariant.Made.{length_vehicles}
 use Rattle.working.proofs.invariant.Opposed.{opposed_slow}
@@ -25,8 +25,8 @@ use Rattle.working.specs.declared.Station.TheVariants.{A, B}
 use Rattle.working.specs.declared.Station.{Station}
 use lib.ListN.{length}
 use mathlib.Core.Bool.{false, true}
-use mathlib.Core.List.{List, [], ◌++◌, ◌∷◌, append_assoc, append-nil}
-use mathlib.Core.Path.{◌∙◌, ◌≡◌, refl, sym}
+use mathlib.Core.List.{List, [], append-nil, append_assoc, ◌++◌, ◌∷◌}
+use mathlib.Core.Path.{refl, sym, ◌∙◌, ◌≡◌}
 use native.Mathlib.Omega.{arith}
 
 -- ---- what every list keeps

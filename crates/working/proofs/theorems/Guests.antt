@@ -5,7 +5,7 @@
 -- stands there, so that today's tests come to 14 where those before stopped at 11 (`verdict_as`); by either it is refused, and the section is the same. So the step with 11
 -- on RETURN keeps the invariant as today's does, and what is shown of its lists follows.
 -- Assumes nothing.
-use Prim.Native.Nat.{◌+◌, ◌<◌, ℕ}
+use Prim.Native.Nat.{ℕ, ◌+◌, ◌<◌}
 use Rattle.working.proofs.examples.Computing.{reading_computes, step_computes}
 use Rattle.working.proofs.examples.Consequences.{holding, list}
 use Rattle.working.proofs.examples.Literals.{opens, receive, returns}
@@ -18,7 +18,8 @@ use Rattle.working.specs.Acts as acts
 use Rattle.working.specs.Document01.{altered, on_decoded_by, return_tests_01}
 use Rattle.working.specs.Effects.{effect_of, way_form}
 use Rattle.working.specs.Events.{At, Bad, Begin, Decoded, Meet, Resume, Says, decode}
-use Rattle.working.specs.Guests.{AnsweredAsWith11, GuestsToday, GuestsWith11, GuestsWithoutClears, NoGuestAt11, answer_with_14, plan_with_11, reason_with_14, returns_with_14, says_return, step_with_11}
+use Rattle.working.specs.Guests.{AnsweredAsWith11, GuestsToday, GuestsWith11, GuestsWithoutClears, NoGuestAt11, answer_with_14}
+use Rattle.working.specs.Guests.{plan_with_11, reason_with_14, returns_with_14, says_return, step_with_11}
 use Rattle.working.specs.Reasons.{depart_tests, last_tests, return_tests}
 use Rattle.working.specs.Refusals.{Test, first_of, number_of, or_else}
 use Rattle.working.specs.Runs.{Done, Run, end_by, next, results, results_by, stop}
@@ -41,7 +42,7 @@ use borrow.Author.Tests.{eq-eqb, ltb-true, not-true}
 use lib.Dec.{eqb, ltb}
 use mathlib.Core.Bool.{Bool, false, false≢true, not, true}
 use mathlib.Core.List.{List, [], ◌++◌, ◌∷◌}
-use mathlib.Core.Path.{◌∙◌, ◌≡◌, ap, refl, sym}
+use mathlib.Core.Path.{ap, refl, sym, ◌∙◌, ◌≡◌}
 use native.Mathlib.Omega.{arith}
 
 -- ---- a desk with a guest

@@ -2,7 +2,7 @@
 -- refuses none has no such entry (`none_endorsed`), and no vehicle present after it left on one (`none_last`).
 -- An entry says that a TRAIN is endorsed only where its kind is 9; and a vehicle's departure, which is in the list, has the kind that its record says (demand 3).
 -- Assumes nothing.
-use Prim.Native.Nat.{◌+◌, ◌<◌, ℕ}
+use Prim.Native.Nat.{ℕ, ◌+◌, ◌<◌}
 use Rattle.working.proofs.laws.Every.{Every}
 use Rattle.working.proofs.laws.Found.{Found, cut, found, the_end, whole}
 use Rattle.working.proofs.laws.Tests.{both, clash}
@@ -29,10 +29,10 @@ use Rattle.working.specs.declared.Verdict.TheVariants.{Allowed, Refused}
 use Rattle.working.specs.declared.Verdict.{Verdict}
 use borrow.Author.Tests.{le-ltb}
 use lib.Dec.{eqb}
-use mathlib.Core.Bool.{Bool, ◌&&◌, cond, false, false≢true, true}
+use mathlib.Core.Bool.{Bool, cond, false, false≢true, true, ◌&&◌}
 use mathlib.Core.List.{List, [], ◌∷◌}
 use mathlib.Core.Option.{Option, none, some}
-use mathlib.Core.Path.{◌∙◌, ◌≡◌, ap, refl, sym}
+use mathlib.Core.Path.{ap, refl, sym, ◌∙◌, ◌≡◌}
 
 -- ---- an entry of kind 9
 

@@ -20,9 +20,9 @@ use Rattle.working.specs.declared.Station.{Station}
 use Rattle.working.specs.declared.Table.TheVariants.{SingleLine}
 use lib.ListN.{drop, length, take, take-append-drop}
 use lib.Seq.{take_at}
-use mathlib.Core.List.{List, [], ◌++◌, ◌∷◌, append_assoc, append_cancel_left, append_cancel_right, map, map-append, map-map}
+use mathlib.Core.List.{List, [], append_assoc, append_cancel_left, append_cancel_right, map, map-append, map-map, ◌++◌, ◌∷◌}
 use mathlib.Core.Option.{none}
-use mathlib.Core.Path.{◌∙◌, ◌≡◌, ap, ap₂, refl, subst, sym}
+use mathlib.Core.Path.{ap, ap₂, refl, subst, sym, ◌∙◌, ◌≡◌}
 use native.Mathlib.Omega.{arith}
 
 -- ---- two steps changed about

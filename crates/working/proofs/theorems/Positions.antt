@@ -2,7 +2,7 @@
 -- position just where some well-made section is written so. Each figure is put at the front of what follows, so that reading it back is a computation; a number in two or
 -- four bytes is its quotients and remainders put together again.
 -- Assumes nothing.
-use Prim.Native.Nat.{◌%◌, ◌*◌, ◌+◌, ◌/◌, ◌≤◌, suc, zero, ℕ}
+use Prim.Native.Nat.{suc, zero, ℕ, ◌%◌, ◌*◌, ◌+◌, ◌/◌, ◌≤◌}
 use Rattle.working.proofs.invariant.Made.{length-pad_to, length_vehicles}
 use Rattle.working.proofs.laws.Clauses.{section-made}
 use Rattle.working.proofs.laws.OwnPlaces.{own_vehicles}
@@ -27,8 +27,8 @@ use lib.Dec.{eqb, ltb}
 use lib.ListN.{drop, length, length-append, length-take, replicate, take}
 use lib.Seq.{drop-append-add, get_or-append-add}
 use mathlib.Core.Bool.{Bool, false, true}
-use mathlib.Core.List.{List, [], ◌++◌, ◌∷◌, append_assoc}
-use mathlib.Core.Path.{◌∙◌, ◌≡◌, ap, ap₂, refl, sym}
+use mathlib.Core.List.{List, [], append_assoc, ◌++◌, ◌∷◌}
+use mathlib.Core.Path.{ap, ap₂, refl, sym, ◌∙◌, ◌≡◌}
 use native.Mathlib.Nat.{div-add-mod'}
 use native.Mathlib.Omega.{arith}
 

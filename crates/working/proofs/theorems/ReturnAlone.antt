@@ -3,12 +3,12 @@
 -- Where a guest stands, the section is empty and neither station holds a line clear; the other station's opener is away and no guest stands there. So the other station may send
 -- nothing and has nothing to receive. An entry of the other station before the RETURN leaves the guest's desk as it was; one behind it could stand before it, by demand 3.
 -- Assumes nothing.
-use Prim.Native.Nat.{◌<◌, ℕ}
+use Prim.Native.Nat.{ℕ, ◌<◌}
 use Rattle.working.proofs.invariant.Changes.{named_there, sound_step, step_is, well_at}
 use Rattle.working.proofs.invariant.Invariant.{Visited, cons_nil, snoc_nil}
 use Rattle.working.proofs.invariant.Made.{other_sender}
 use Rattle.working.proofs.invariant.Preserved.{Good, kept_at}
-use Rattle.working.proofs.invariant.Sides.{moves_far, moves_own, moves_of}
+use Rattle.working.proofs.invariant.Sides.{moves_far, moves_of, moves_own}
 use Rattle.working.proofs.laws.Clauses.{Shape}
 use Rattle.working.proofs.laws.Lists.{split_run, step_did}
 use Rattle.working.proofs.laws.Reasons.{depart_passes, open_passes, receive_passes, return_passes, train_passes}
@@ -38,7 +38,7 @@ use borrow.Author.Tests.{lt-ltb}
 use lib.ListN.{length}
 use mathlib.Core.Bool.{Bool, false, false≢true, true}
 use mathlib.Core.List.{List, ◌++◌, ◌∷◌}
-use mathlib.Core.Path.{◌∙◌, ◌≡◌, ap, refl, sym}
+use mathlib.Core.Path.{ap, refl, sym, ◌∙◌, ◌≡◌}
 use native.Mathlib.Omega.{arith}
 
 -- ---- a station's act on a well-made section

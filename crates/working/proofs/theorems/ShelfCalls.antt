@@ -3,8 +3,8 @@
 -- what was read before, and in every used place the title that it had (proofs/laws/Stores.antt). Over a list all of these follow call by call, and a fetch of the name last
 -- stored answers what it would have answered behind that store.
 -- Assumes nothing.
-use Prim.Native.Nat.{◌*◌, ◌+◌, ◌≤◌, ℕ}
-use Rattle.working.proofs.laws.Stores.{Stored, accepted, fetch_given, fetch-same, refused, store_by}
+use Prim.Native.Nat.{ℕ, ◌*◌, ◌+◌, ◌≤◌}
+use Rattle.working.proofs.laws.Stores.{Stored, accepted, fetch-same, fetch_given, refused, store_by}
 use Rattle.working.proofs.laws.Tests.{both}
 use Rattle.working.specs.Entries.{pasted}
 use Rattle.working.specs.Positions.{byte_at, same_bytes}
@@ -16,7 +16,7 @@ use lib.ListN.{drop, length}
 use lib.Seq.{get_or-drop, get_or-take}
 use mathlib.Core.Bool.{and-true, false, not, true, true≢false}
 use mathlib.Core.List.{List, [], ◌++◌, ◌∷◌}
-use mathlib.Core.Path.{◌∙◌, ◌≡◌, ap, refl, sym}
+use mathlib.Core.Path.{ap, refl, sym, ◌∙◌, ◌≡◌}
 use native.Mathlib.Omega.{arith}
 
 -- ---- one call

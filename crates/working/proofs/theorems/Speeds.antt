@@ -14,7 +14,7 @@ use Rattle.working.specs.declared.View.TheVariants.{Clear, Impaired, Night}
 use Rattle.working.specs.declared.View.{View}
 use lib.Dec.{eqb, ltb}
 use mathlib.Core.Bool.{Bool, cond, false, false≢true, not, true}
-use mathlib.Core.Path.{◌≡◌, refl}
+use mathlib.Core.Path.{refl, ◌≡◌}
 
 pub tb602_speed_as_01 : Tb602SpeedAs01
 tb602_speed_as_01 Clear = refl

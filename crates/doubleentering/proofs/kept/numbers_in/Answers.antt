@@ -1,14 +1,14 @@
 -- One more number is read off its place, and at the end zeros stand behind those on the line.
 -- Assumes nothing.
-use Rattle.std.proofs.Common.{ap, arith, length, min, rules, take, ◌∙◌, ◌≡◌}
 use Rattle.doubleentering.proofs.Numbers.{padded, place_at, places_count}
 use Rattle.doubleentering.proofs.Sides.{side_is}
+use Rattle.doubleentering.proofs.kept.numbers_in.Goals as goal
 use Rattle.doubleentering.specs.DoubleWords.{places_in}
 use Rattle.section.proofs.Passes.{at_end, take_present}
+use Rattle.std.proofs.Common.{ap, arith, length, min, rules, take, ◌∙◌, ◌≡◌}
 use Rattle.words.proofs.DeskWords.{figure_next}
 use Rattle.words.specs.Words.{ring_in, word_count}
 use Rattle.working.specs.Sections.{pad_with}
-use Rattle.doubleentering.proofs.kept.numbers_in.Goals as goal
 use lib.ListN.{replicate}
 
 pub loop-i-preserved : goal.loop-i-preserved

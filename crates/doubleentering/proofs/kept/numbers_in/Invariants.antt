@@ -1,10 +1,10 @@
 -- The first `i` numbers are those of the places, and zeros stand behind them.
 -- Assumes nothing.
-use Rattle.std.proofs.Common.{◌++◌, ◌-◌, ◌≡◌, ℕ, drop, take}
-use Rattle.section.proofs.Passes.{Up}
-use Rattle.doubleentering.specs.DoubleWords.{places_in}
-use Rattle.words.specs.Words.{ring_in}
 use Rattle.doubleentering.proofs.kept.numbers_in.Given as goal
+use Rattle.doubleentering.specs.DoubleWords.{places_in}
+use Rattle.section.proofs.Passes.{Up}
+use Rattle.std.proofs.Common.{drop, take, ℕ, ◌++◌, ◌-◌, ◌≡◌}
+use Rattle.words.specs.Words.{ring_in}
 use lib.ListN.{replicate}
 
 abbrev pub invariant-loop-i : goal.invariant-loop-i

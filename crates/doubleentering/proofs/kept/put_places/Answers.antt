@@ -1,12 +1,12 @@
 -- One more number is put in its place, and at the end each place has its own.
 -- Assumes nothing.
-use Rattle.std.proofs.Common.{Fits, arith, rules, length, drop, take, ◌%◌, ◌+◌, ◌++◌, ◌∙◌, ◌≡◌}
 use Rattle.doubleentering.proofs.Numbers.{place-put, places_as, places_count, places_then}
+use Rattle.doubleentering.proofs.kept.put_places.Goals as goal
 use Rattle.doubleentering.specs.DoubleWords.{places_in}
 use Rattle.section.proofs.Passes.{at_end}
+use Rattle.std.proofs.Common.{Fits, arith, drop, length, rules, take, ◌%◌, ◌++◌, ◌+◌, ◌∙◌, ◌≡◌}
 use Rattle.words.proofs.DeskWords.{figure_next, figures-all}
 use Rattle.words.specs.Words.{ring_in}
-use Rattle.doubleentering.proofs.kept.put_places.Goals as goal
 use lib.ListN.{get_or}
 use mir.Syntax.{w16}
 use native.Mathlib.Nat.{mod-eq_of_lt}

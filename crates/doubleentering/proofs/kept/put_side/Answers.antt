@@ -1,8 +1,8 @@
 -- The figures that a desk has are put, and then the numbers in the places.
 -- Assumes nothing.
 use Rattle.doubleentering.proofs.Sides.{desk_places_side}
-use Rattle.working.specs.declared.Desk.{Desk}
 use Rattle.doubleentering.proofs.kept.put_side.Goals as goal
+use Rattle.working.specs.declared.Desk.{Desk}
 
 pub returns : goal.returns
 returns c =

@@ -1,8 +1,8 @@
 -- Force and the counts are read as of a single line's section, and each side is what `side_in` reads.
 -- Assumes nothing.
+use Rattle.doubleentering.proofs.kept.section_in.Goals as goal
 use Rattle.doubleentering.specs.DoubleWords.{double_in}
 use Rattle.words.specs.Words.{section_in}
-use Rattle.doubleentering.proofs.kept.section_in.Goals as goal
 
 pub returns : goal.returns
 unfolding double_in section_in

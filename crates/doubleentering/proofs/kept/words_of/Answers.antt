@@ -1,12 +1,12 @@
 -- They are the words of an empty section, with both sides put into them.
 -- Assumes nothing.
-use Rattle.std.proofs.Common.{ap, ◌∙◌}
 use Rattle.double.specs.Sections.{with_side}
 use Rattle.double.specs.declared.Section.{Section}
 use Rattle.doubleentering.proofs.Sides.{made_anew}
-use Rattle.doubleentering.specs.DoubleWords.{trimmed_side}
-use Rattle.working.specs.declared.Station.TheVariants.{A, B}
 use Rattle.doubleentering.proofs.kept.words_of.Goals as goal
+use Rattle.doubleentering.specs.DoubleWords.{trimmed_side}
+use Rattle.std.proofs.Common.{ap, ◌∙◌}
+use Rattle.working.specs.declared.Station.TheVariants.{A, B}
 
 pub returns : goal.returns
 returns c =

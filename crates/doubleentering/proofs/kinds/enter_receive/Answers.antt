@@ -1,8 +1,8 @@
 -- The tests are the definition's, and where none holds the clock is put here and the first taken off the other's line.
 -- Assumes nothing.
 use Rattle.doubleentering.proofs.Answering.{not_next, not_taken, taken_in_lem}
-use Rattle.entering.proofs.Becoming.{look}
 use Rattle.doubleentering.proofs.kinds.enter_receive.Goals as goal
+use Rattle.entering.proofs.Becoming.{look}
 
 pub returns-in-Refused : goal.returns-in-Refused
 returns-in-Refused c =

@@ -1,12 +1,12 @@
 -- Refused out of force or with a train on either line, and else all is made anew.
 -- Assumes nothing.
-use Rattle.std.proofs.Common.{Bool, false, ◌∙◌, ap₂, refl, sym, ℕ}
 use Rattle.double.specs.Steps.{Resume}
 use Rattle.doubleentering.proofs.Answering.{declared}
 use Rattle.doubleentering.proofs.Sides.{force_is}
+use Rattle.doubleentering.proofs.kinds.enter_resume.Goals as goal
+use Rattle.std.proofs.Common.{Bool, ap₂, false, refl, sym, ℕ, ◌∙◌}
 use Rattle.working.specs.Reasons.{resume_tests}
 use Rattle.working.specs.Refusals.{first_of}
-use Rattle.doubleentering.proofs.kinds.enter_resume.Goals as goal
 
 pub returns : goal.returns
 returns c =

@@ -1,10 +1,10 @@
 -- The tests are the definition's, and where none holds the train is the last on its line.
 -- Assumes nothing.
-use Rattle.std.proofs.Common.{arith, ap, refl}
 use Rattle.doubleentering.proofs.Answering.{has_left, may_leave, may_not_leave}
-use Rattle.entering.proofs.Becoming.{look, station_by}
-use Rattle.working.specs.declared.Desk.{Desk}
 use Rattle.doubleentering.proofs.kinds.enter_train.Goals as goal
+use Rattle.entering.proofs.Becoming.{look, station_by}
+use Rattle.std.proofs.Common.{ap, arith, refl}
+use Rattle.working.specs.declared.Desk.{Desk}
 
 pub returns-in-Refused : goal.returns-in-Refused
 returns-in-Refused c =

@@ -1,13 +1,13 @@
 -- One more number is passed, and at the end none is left to look at.
 -- Assumes nothing.
-use Rattle.std.proofs.Common.{Bool, arith, rules, drop, length, suc, take, ◌∙◌, ◌+◌, ◌<◌, ◌≡◌, ℕ, List, ap, sym}
 use Rattle.double.specs.WellMade.{rising}
-use Rattle.section.proofs.Passes.{at_end}
 use Rattle.doubleentering.proofs.made.rises.Goals as goal
+use Rattle.section.proofs.Passes.{at_end}
+use Rattle.std.proofs.Common.{Bool, List, ap, arith, drop, length, rules, suc, sym, take, ℕ, ◌+◌, ◌<◌, ◌∙◌, ◌≡◌}
 use lib.Dec.{leb, ltb}
 use lib.ListN.{drop_of_length-le, get_or, length-take}
 use lib.Seq.{drop-cons, get_or-take}
-use mathlib.Core.Bool.{◌&&◌, and_assoc, and-true}
+use mathlib.Core.Bool.{and-true, and_assoc, ◌&&◌}
 use native.Mathlib.Numerals.{add-one}
 
 -- one more is passed

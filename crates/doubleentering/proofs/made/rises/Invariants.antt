@@ -1,9 +1,9 @@
 -- The line rises if the numbers passed do, and those from place `i` on rise above the last passed.
 -- Assumes nothing.
-use Rattle.std.proofs.Common.{◌-◌, ◌≡◌, drop, take}
 use Rattle.double.specs.WellMade.{rising}
-use Rattle.section.proofs.Passes.{Up}
 use Rattle.doubleentering.proofs.made.rises.Given as goal
+use Rattle.section.proofs.Passes.{Up}
+use Rattle.std.proofs.Common.{drop, take, ◌-◌, ◌≡◌}
 use mathlib.Core.Bool.{◌&&◌}
 
 abbrev pub invariant-loop-i : goal.invariant-loop-i

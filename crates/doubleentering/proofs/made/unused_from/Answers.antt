@@ -1,10 +1,10 @@
 -- One more place is tested, and the pass ends at `from`, or at once where `from` is past the last place.
 -- Assumes nothing.
-use Rattle.std.proofs.Common.{Bool, arith, rules, length, ap, ◌-◌, ◌≡◌, ℕ, List}
+use Rattle.doubleentering.proofs.made.unused_from.Goals as goal
 use Rattle.section.proofs.Passes.{ends, goes_on_lem}
+use Rattle.std.proofs.Common.{Bool, List, ap, arith, length, rules, ℕ, ◌-◌, ◌≡◌}
 use Rattle.working.specs.Entries.{every}
 use Rattle.working.specs.WellMade.{zero_tests}
-use Rattle.doubleentering.proofs.made.unused_from.Goals as goal
 use lib.Dec.{eqb}
 use lib.ListN.{get_or}
 use lib.Seq.{take_all}

@@ -1,9 +1,9 @@
 -- The code joins the definition's tests in its order, each as its own function found it.
 -- Assumes nothing.
-use Rattle.std.proofs.Common.{Bool, true, ◌∙◌, ◌≡◌}
 use Rattle.double.specs.WellMade.{well_made}
 use Rattle.doubleentering.proofs.made.well_made.Goals as goal
-use mathlib.Core.Bool.{◌&&◌, ◌||◌, and-true}
+use Rattle.std.proofs.Common.{Bool, true, ◌∙◌, ◌≡◌}
+use mathlib.Core.Bool.{and-true, ◌&&◌, ◌||◌}
 
 joined : (a b force : Bool) → (a && (b && force)) ≡ (a && (b && (force && true)))
 joined a b force = simp and-true

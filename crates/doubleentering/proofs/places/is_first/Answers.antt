@@ -1,11 +1,11 @@
 -- A line with any train on it has its first in the first place.
 -- Assumes nothing.
-use Rattle.std.proofs.Common.{arith, rules, length, ◌+◌, ◌≡◌}
 use Rattle.doubleentering.proofs.Numbers.{first_of, line_from, place_at, places_count}
 use Rattle.doubleentering.proofs.Sides.{line_is}
-use Rattle.doubleentering.specs.DoubleWords.{places_in}
-use Rattle.words.specs.Words.{ring_in, word_count}
 use Rattle.doubleentering.proofs.places.is_first.Goals as goal
+use Rattle.doubleentering.specs.DoubleWords.{places_in}
+use Rattle.std.proofs.Common.{arith, length, rules, ◌+◌, ◌≡◌}
+use Rattle.words.specs.Words.{ring_in, word_count}
 
 pub returns : goal.returns
 returns c =

@@ -1,11 +1,11 @@
 -- One more number is that of the place behind it.
 -- Assumes nothing.
-use Rattle.std.proofs.Common.{ap, arith, drop, sym, take, ◌+◌, ◌++◌, ◌∙◌, ◌≡◌}
-use Rattle.doubleentering.proofs.Numbers.{line_from, moves, place_at, place-put, places_as, places_count, places_then}
+use Rattle.doubleentering.proofs.Numbers.{line_from, moves, place-put, place_at, places_as, places_count, places_then}
+use Rattle.doubleentering.proofs.places.move_up.Goals as goal
 use Rattle.doubleentering.specs.DoubleWords.{places_in}
+use Rattle.std.proofs.Common.{ap, arith, drop, sym, take, ◌++◌, ◌+◌, ◌∙◌, ◌≡◌}
 use Rattle.words.proofs.DeskWords.{figure_next}
 use Rattle.words.specs.Words.{ring_in}
-use Rattle.doubleentering.proofs.places.move_up.Goals as goal
 use lib.ListN.{get_or, length-drop, set}
 
 pub loop-i-preserved : goal.loop-i-preserved

@@ -1,8 +1,8 @@
 -- A desk counts the trains on its station's line.
 -- Assumes nothing.
+use Rattle.doubleentering.proofs.places.present.Goals as goal
 use Rattle.doubleentering.specs.DoubleWords.{double_in}
 use Rattle.words.specs.Words.{section_in}
-use Rattle.doubleentering.proofs.places.present.Goals as goal
 
 pub returns : goal.returns
 unfolding double_in section_in

@@ -1,10 +1,10 @@
 -- The desk's figures are put, and the number behind those on the line.
 -- Assumes nothing.
-use Rattle.std.proofs.Common.{arith, rules, length, ◌%◌, ◌≡◌}
 use Rattle.doubleentering.proofs.Numbers.{place-put}
 use Rattle.doubleentering.proofs.Sides.{train_put}
-use Rattle.words.specs.Words.{word_count}
 use Rattle.doubleentering.proofs.places.put_train.Goals as goal
+use Rattle.std.proofs.Common.{arith, length, rules, ◌%◌, ◌≡◌}
+use Rattle.words.specs.Words.{word_count}
 use native.Mathlib.Nat.{mod-eq_of_lt}
 
 pub returns : goal.returns

@@ -1,9 +1,9 @@
 -- One less is on the line, and every number has moved up.
 -- Assumes nothing.
-use Rattle.std.proofs.Common.{ap, min, ◌-◌, ◌∙◌}
 use Rattle.doubleentering.proofs.Sides.{first_taken_lem}
-use Rattle.working.specs.declared.Desk.{Desk}
 use Rattle.doubleentering.proofs.places.take_first.Goals as goal
+use Rattle.std.proofs.Common.{ap, min, ◌-◌, ◌∙◌}
+use Rattle.working.specs.declared.Desk.{Desk}
 
 pub returns : goal.returns
 returns c =

@@ -1,8 +1,8 @@
 -- Refused with 7, then with 22, and else the two have met.
 -- Assumes nothing.
-use Rattle.std.proofs.Common.{◌∙◌, sym}
 use Rattle.entering.proofs.Becoming.{meet_allowed, meet_out_of_force, meet_refused, met_by}
 use Rattle.entering.proofs.declaring.enter_meet.Goals as goal
+use Rattle.std.proofs.Common.{sym, ◌∙◌}
 
 pub returns-then-not-in_force : goal.returns-then-not-in_force
 returns-then-not-in_force c = meet_out_of_force _ _ _ _ (sym c.in_force.ensures ∙ c.if-not-in_force.true) c.refuse.ensures

@@ -1,10 +1,10 @@
 -- Refused out of force or with a vehicle present, and else all is made anew.
 -- Assumes nothing.
-use Rattle.std.proofs.Common.{Bool, false, ℕ, ◌∙◌, ap₂, sym}
 use Rattle.entering.proofs.Becoming.{declared}
+use Rattle.entering.proofs.declaring.enter_resume.Goals as goal
+use Rattle.std.proofs.Common.{Bool, ap₂, false, sym, ℕ, ◌∙◌}
 use Rattle.working.specs.Reasons.{resume_tests}
 use Rattle.working.specs.Refusals.{first_of}
-use Rattle.entering.proofs.declaring.enter_resume.Goals as goal
 
 pub returns : goal.returns
 returns c =

@@ -1,10 +1,10 @@
 -- The tests are the definition's, and where none holds the vehicle leaves and out is set.
 -- Assumes nothing.
-use Rattle.std.proofs.Common.{arith, true}
 use Rattle.entering.proofs.Becoming.{act_done, first_refused, left_with, look, may_leave, own-refused, pass}
+use Rattle.entering.proofs.departures.enter_open.Goals as goal
+use Rattle.std.proofs.Common.{arith, true}
 use Rattle.words.specs.Words.{with_out}
 use Rattle.working.specs.Reasons.{open_tests}
-use Rattle.entering.proofs.departures.enter_open.Goals as goal
 
 pub returns-in-Refused : goal.returns-in-Refused
 returns-in-Refused c =

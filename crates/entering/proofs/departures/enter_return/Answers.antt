@@ -1,11 +1,11 @@
 -- The tests are the definition's, and where none holds the guest leaves and the enquiry is answered.
 -- Assumes nothing.
-use Rattle.std.proofs.Common.{arith}
 use Rattle.entering.proofs.Becoming.{act_done, first_refused, left_with, look, may_leave, own-refused, pass}
+use Rattle.entering.proofs.departures.enter_return.Goals as goal
+use Rattle.std.proofs.Common.{arith}
 use Rattle.words.proofs.Becoming.{desk_then}
 use Rattle.words.specs.Words.{with_clears, with_guest}
 use Rattle.working.specs.Reasons.{return_tests}
-use Rattle.entering.proofs.departures.enter_return.Goals as goal
 
 pub returns-in-Refused : goal.returns-in-Refused
 returns-in-Refused c =

@@ -1,9 +1,9 @@
 -- The tests are the definition's, and where none holds the vehicle leaves.
 -- Assumes nothing.
-use Rattle.std.proofs.Common.{arith}
 use Rattle.entering.proofs.Becoming.{act_done, first_refused, has_left, look, may_leave, own-refused, pass}
-use Rattle.working.specs.Reasons.{open_tests}
 use Rattle.entering.proofs.departures.enter_through.Goals as goal
+use Rattle.std.proofs.Common.{arith}
+use Rattle.working.specs.Reasons.{open_tests}
 
 pub returns-in-Refused : goal.returns-in-Refused
 returns-in-Refused c =

@@ -1,10 +1,10 @@
 -- The tests are the definition's, and where none holds the train leaves on a line clear, with the others where it is endorsed as the last.
 -- Assumes nothing.
-use Rattle.std.proofs.Common.{arith}
 use Rattle.entering.proofs.Becoming.{act_done, first_refused, left_with, look, may_leave, own-refused, pass}
+use Rattle.entering.proofs.departures.enter_train.Goals as goal
+use Rattle.std.proofs.Common.{arith}
 use Rattle.words.specs.Words.{with_clears}
 use Rattle.working.specs.Reasons.{train_tests}
-use Rattle.entering.proofs.departures.enter_train.Goals as goal
 
 pub returns-in-Refused : goal.returns-in-Refused
 returns-in-Refused c =

@@ -1,9 +1,9 @@
 -- The vehicle is received, and then its reply is read.
 -- Assumes nothing.
 use Rattle.entering.proofs.Becoming.{desk_is}
+use Rattle.entering.proofs.receipts.arrive.Goals as goal
 use Rattle.words.proofs.Becoming.{desk_then}
 use Rattle.working.specs.Effects.{arrive_desk, receipt_desk, replied}
-use Rattle.entering.proofs.receipts.arrive.Goals as goal
 
 pub returns : goal.returns
 unfolding arrive_desk

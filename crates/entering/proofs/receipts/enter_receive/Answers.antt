@@ -1,10 +1,10 @@
 -- The tests are the definition's, and where none holds the vehicle is received and the desk altered by it.
 -- Assumes nothing.
 use Rattle.entering.proofs.Becoming.{act_done, first_refused, look, own-refused, pass, vehicles_and_desk}
+use Rattle.entering.proofs.receipts.enter_receive.Goals as goal
 use Rattle.words.specs.Words.{start_on}
 use Rattle.working.specs.Effects.{arrive_desk}
 use Rattle.working.specs.Sections.{remove_at}
-use Rattle.entering.proofs.receipts.enter_receive.Goals as goal
 
 pub returns-in-Refused : goal.returns-in-Refused
 returns-in-Refused c =

@@ -1,8 +1,8 @@
 -- One more number is read at its place, and all twelve are those of the places.
 -- Assumes nothing.
-use Rattle.std.proofs.Common.{arith, rules, sym}
 use Rattle.figures.proofs.Places.{all-places, place_more}
 use Rattle.figures.proofs.doubles.numbers_in.Goals as goal
+use Rattle.std.proofs.Common.{arith, rules, sym}
 use Rattle.working.specs.Positions.{two_at}
 
 pub loop-i-preserved : goal.loop-i-preserved

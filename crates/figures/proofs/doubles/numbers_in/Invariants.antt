@@ -1,8 +1,8 @@
 -- `doubles::numbers_in` meets its contract. The loop's invariant: each number below `i` is the one that the two bytes of its place say.
 -- Assumes nothing.
-use Rattle.std.proofs.Common.{length, ◌-◌, ◌≡◌, ◌≤◌}
 use Rattle.figures.proofs.Places.{Reads}
 use Rattle.figures.proofs.doubles.numbers_in.Given as goal
+use Rattle.std.proofs.Common.{length, ◌-◌, ◌≡◌, ◌≤◌}
 use Rattle.working.specs.Positions.{two_at}
 
 abbrev pub invariant-loop-i : goal.invariant-loop-i

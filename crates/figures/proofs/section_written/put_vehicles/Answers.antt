@@ -1,8 +1,8 @@
 -- No place is put at first, and one more is put behind those before it.
 -- Assumes nothing.
-use Rattle.std.proofs.Common.{arith, refl}
 use Rattle.figures.proofs.section_written.put_vehicles.Goals as goal
 use Rattle.figures.specs.Written.{put_places}
+use Rattle.std.proofs.Common.{arith, refl}
 use native.Mathlib.Numerals.{add-one}
 
 pub loop-i-init : goal.loop-i-init

@@ -1,9 +1,9 @@
 -- One more vehicle is read at its place, and all 24 are those of the places.
 -- Assumes nothing.
-use Rattle.std.proofs.Common.{arith, rules, sym}
 use Rattle.figures.proofs.Places.{all-places, place_more}
 use Rattle.figures.proofs.sections.vehicles_in.Goals as goal
 use Rattle.figures.specs.Figures.{vehicle_at}
+use Rattle.std.proofs.Common.{arith, rules, sym}
 use Rattle.working.specs.Sections.{unused}
 use native.Mathlib.Nat.{zero-add}
 

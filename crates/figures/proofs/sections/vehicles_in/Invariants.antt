@@ -1,9 +1,9 @@
 -- `sections::vehicles_in` meets its contract. The loop's invariant: each vehicle below `i` is the one that the ten bytes of its place say.
 -- Assumes nothing.
-use Rattle.std.proofs.Common.{length, ◌-◌, ◌≡◌, ◌≤◌}
 use Rattle.figures.proofs.Places.{Reads}
 use Rattle.figures.proofs.sections.vehicles_in.Given as goal
 use Rattle.figures.specs.Figures.{vehicle_at}
+use Rattle.std.proofs.Common.{length, ◌-◌, ◌≡◌, ◌≤◌}
 use Rattle.working.specs.Sections.{unused}
 
 abbrev pub invariant-loop-i : goal.invariant-loop-i

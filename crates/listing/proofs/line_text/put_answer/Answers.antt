@@ -1,8 +1,8 @@
 -- `line_text::put_answer` meets its contract: each part is put behind the one before it.
 -- Assumes nothing.
-use Rattle.std.proofs.Common.{arith}
 use Rattle.listing.proofs.Putting.{◌then◌}
 use Rattle.listing.proofs.line_text.put_answer.Goals as goal
+use Rattle.std.proofs.Common.{arith}
 
 pub returns-in-Refused : goal.returns-in-Refused
 returns-in-Refused c =

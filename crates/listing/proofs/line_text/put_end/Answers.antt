@@ -1,10 +1,10 @@
 -- One more figure is put behind those before it, and a line feed behind the last.
 -- Assumes nothing.
-use Rattle.std.proofs.Common.{arith, add-one}
-use Rattle.listing.proofs.Putting.{◌then◌, one_figure_more}
+use Rattle.listing.proofs.Putting.{one_figure_more, ◌then◌}
 use Rattle.listing.proofs.line_text.put_end.Goals as goal
 use Rattle.listing.specs.LineText.{end_line, figures_text}
 use Rattle.listing.specs.Text.{Puts}
+use Rattle.std.proofs.Common.{add-one, arith}
 use Rattle.std.proofs.Math.Seq.{take_all}
 
 pub loop-i-preserved : goal.loop-i-preserved

@@ -1,9 +1,9 @@
 -- `line_text::put_end` meets its contract. The loop's invariant: the first `i` of the figures are put behind the word.
 -- Assumes nothing.
-use Rattle.std.proofs.Common.{◌≤◌, ◌+◌, ◌*◌, ◌-◌, length, take}
 use Rattle.listing.proofs.line_text.put_end.Given as goal
 use Rattle.listing.specs.LineText.{figures_text}
 use Rattle.listing.specs.Text.{Puts, longest_field}
+use Rattle.std.proofs.Common.{length, take, ◌*◌, ◌+◌, ◌-◌, ◌≤◌}
 
 abbrev pub invariant-loop-i : goal.invariant-loop-i
 invariant-loop-i l = record {

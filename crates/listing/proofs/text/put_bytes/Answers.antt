@@ -1,8 +1,8 @@
 -- One more byte is put behind those before it.
 -- Assumes nothing.
-use Rattle.std.proofs.Common.{arith, add-one}
 use Rattle.listing.proofs.Putting.{◌then◌}
 use Rattle.listing.proofs.text.put_bytes.Goals as goal
+use Rattle.std.proofs.Common.{add-one, arith}
 use Rattle.std.proofs.Math.Seq.{take-suc}
 
 pub loop-i-preserved : goal.loop-i-preserved

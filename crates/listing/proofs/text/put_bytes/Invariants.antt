@@ -1,8 +1,8 @@
 -- `text::put_bytes` meets its contract. The loop's invariant: the first `i` of the bytes are put.
 -- Assumes nothing.
-use Rattle.std.proofs.Common.{◌≤◌, ◌≡◌, ◌+◌, ◌-◌, length, take}
 use Rattle.listing.proofs.text.put_bytes.Given as goal
 use Rattle.listing.specs.Text.{Puts}
+use Rattle.std.proofs.Common.{length, take, ◌+◌, ◌-◌, ◌≡◌, ◌≤◌}
 
 abbrev pub invariant-loop-i : goal.invariant-loop-i
 invariant-loop-i l = record {

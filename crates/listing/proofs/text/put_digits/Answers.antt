@@ -1,9 +1,9 @@
 -- One unit further down is one digit more, and behind those down to ten comes the last.
 -- Assumes nothing.
-use Rattle.std.proofs.Common.{◌≡◌, ◌*◌, ◌/◌, arith}
 use Rattle.listing.proofs.Decimal.{one_more_lem, tenfold, then_last}
 use Rattle.listing.proofs.Putting.{◌then◌}
 use Rattle.listing.proofs.text.put_digits.Goals as goal
+use Rattle.std.proofs.Common.{arith, ◌*◌, ◌/◌, ◌≡◌}
 use native.Mathlib.Nat.{one-le-pow}
 
 pub put_digit-end-requires : goal.put_digit-end-requires

@@ -1,9 +1,9 @@
 -- `text::put_digits` meets its contract. The loop's invariant: the digits above the unit are put, and the unit has as many zeros as digits are left before the last.
 -- Assumes nothing.
-use Rattle.std.proofs.Common.{◌≤◌, ◌≡◌, ◌+◌, ◌*◌, ◌^◌}
 use Rattle.listing.proofs.Decimal.{down_to}
 use Rattle.listing.proofs.text.put_digits.Given as goal
 use Rattle.listing.specs.Text.{Puts}
+use Rattle.std.proofs.Common.{◌*◌, ◌+◌, ◌^◌, ◌≡◌, ◌≤◌}
 
 abbrev pub invariant-loop-left : goal.invariant-loop-left
 invariant-loop-left l = record {

@@ -1,7 +1,7 @@
 -- Each count's four bytes, one count behind the other.
 -- Assumes nothing.
-use Rattle.working.specs.Positions.{counts_bytes}
 use Rattle.position.proofs.desks.counts_bytes.Goals as goal
+use Rattle.working.specs.Positions.{counts_bytes}
 
 pub returns : goal.returns
 unfolding counts_bytes

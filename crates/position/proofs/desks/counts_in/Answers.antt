@@ -1,7 +1,7 @@
 -- `four` makes a count of each four of the twelve bytes: A's, B's, and that of no station.
 -- Assumes nothing.
-use Rattle.working.specs.Positions.{counts_in}
 use Rattle.position.proofs.desks.counts_in.Goals as goal
+use Rattle.working.specs.Positions.{counts_in}
 
 pub returns : goal.returns
 unfolding counts_in

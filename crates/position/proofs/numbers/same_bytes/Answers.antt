@@ -1,9 +1,9 @@
 -- One more pair of bytes is compared. Slices of different lengths are not the same, and past the last byte nothing is left to compare.
 -- Assumes nothing.
-use Rattle.std.proofs.Common.{arith, ap, sym, ◌∙◌}
 use Rattle.position.proofs.Copies.{other_length, same_end, same_next}
 use Rattle.position.proofs.numbers.same_bytes.Goals as goal
-use mathlib.Core.Bool.{◌&&◌, and_assoc}
+use Rattle.std.proofs.Common.{ap, arith, sym, ◌∙◌}
+use mathlib.Core.Bool.{and_assoc, ◌&&◌}
 
 pub returns-then-a-b : goal.returns-then-a-b
 returns-then-a-b c = other_length _ _ c.if-a-b.true

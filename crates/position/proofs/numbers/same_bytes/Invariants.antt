@@ -1,8 +1,8 @@
 -- The slices are the same where those passed are, and the rest is.
 -- Assumes nothing.
-use Rattle.std.proofs.Common.{◌-◌, ◌≡◌, ◌≤◌, drop, length}
-use Rattle.working.specs.Positions.{same_bytes}
 use Rattle.position.proofs.numbers.same_bytes.Given as goal
+use Rattle.std.proofs.Common.{drop, length, ◌-◌, ◌≡◌, ◌≤◌}
+use Rattle.working.specs.Positions.{same_bytes}
 use mathlib.Core.Bool.{◌&&◌}
 
 abbrev pub invariant-loop-i : goal.invariant-loop-i

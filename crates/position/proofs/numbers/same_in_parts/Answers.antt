@@ -1,8 +1,8 @@
 -- Slices of one length are the same where their fronts and their rests are.
 -- Assumes nothing.
-use Rattle.std.proofs.Common.{arith, drop, length, length-drop, ◌-◌}
 use Rattle.position.proofs.Copies.{same_parts}
 use Rattle.position.proofs.numbers.same_in_parts.Goals as goal
+use Rattle.std.proofs.Common.{arith, drop, length, length-drop, ◌-◌}
 use lib.Seq.{take_all}
 
 pub returns : goal.returns

@@ -1,12 +1,12 @@
 -- The place of one more vehicle is put.
 -- Assumes nothing.
-use Rattle.std.proofs.Common.{arith, ap, refl, replicate, rules, ◌*◌, ◌∙◌}
 use Rattle.position.proofs.Places.{put_next}
+use Rattle.position.proofs.sections.places_in.Goals as goal
+use Rattle.std.proofs.Common.{ap, arith, refl, replicate, rules, ◌*◌, ◌∙◌}
 use Rattle.words.specs.Words.{section_in}
 use Rattle.working.specs.Entries.{pasted}
 use Rattle.working.specs.Positions.{places_bytes, vehicle_bytes}
 use Rattle.working.specs.Sections.{vehicles_of}
-use Rattle.position.proofs.sections.places_in.Goals as goal
 use mathlib.Core.Path.{ap₂}
 
 pub loop-i-init : goal.loop-i-init

@@ -1,11 +1,11 @@
 -- The places of the first `i` vehicles are put, and all else is zero.
 -- Assumes nothing.
-use Rattle.std.proofs.Common.{◌++◌, ◌-◌, ◌≡◌, length, replicate, take}
+use Rattle.position.proofs.sections.places_in.Given as goal
 use Rattle.section.proofs.Passes.{Up}
+use Rattle.std.proofs.Common.{length, replicate, take, ◌++◌, ◌-◌, ◌≡◌}
 use Rattle.words.specs.Words.{section_in}
 use Rattle.working.specs.Positions.{places_bytes}
 use Rattle.working.specs.Sections.{vehicles_of}
-use Rattle.position.proofs.sections.places_in.Given as goal
 
 abbrev pub invariant-loop-i : goal.invariant-loop-i
 invariant-loop-i l =

@@ -1,13 +1,13 @@
 -- Behind the places each figure is put at its own.
 -- Assumes nothing.
-use Rattle.std.proofs.Common.{arith, ap, length, length-append, replicate, rules, set, ◌≡◌, ◌∙◌}
 use Rattle.position.proofs.Places.{rest_put}
+use Rattle.position.proofs.sections.position_in.Goals as goal
+use Rattle.std.proofs.Common.{ap, arith, length, length-append, replicate, rules, set, ◌∙◌, ◌≡◌}
 use Rattle.words.specs.Words.{section_in}
 use Rattle.working.specs.Entries.{pasted}
 use Rattle.working.specs.Positions.{counts_bytes, desk_bytes, places_bytes, position_of}
 use Rattle.working.specs.Sections.{vehicles_of}
 use Rattle.working.specs.WellMade.{one_if}
-use Rattle.position.proofs.sections.position_in.Goals as goal
 use mathlib.Core.Path.{ap₂}
 
 pub returns : goal.returns

@@ -1,13 +1,13 @@
 -- Bytes of another length are no position, since a position has 281; of others the two tests are the definition's own, and the words are the own of the section that they say.
 -- Assumes nothing.
-use Rattle.std.proofs.Common.{arith, ap, eq-eqb, ne_eqb, rules, ◌≤◌, ◌∙◌}
 use Rattle.position.proofs.Copies.{other_position}
 use Rattle.position.proofs.Places.{few_read, own_read}
+use Rattle.position.proofs.sections.read.Goals as goal
+use Rattle.std.proofs.Common.{ap, arith, eq-eqb, ne_eqb, rules, ◌∙◌, ◌≤◌}
 use Rattle.words.specs.Words.{words_of}
 use Rattle.working.specs.Positions.{is_position, position_of}
 use Rattle.working.specs.Sections.{vehicles_of, with_vehicles}
 use Rattle.working.specs.WellMade.{one_if}
-use Rattle.position.proofs.sections.read.Goals as goal
 
 pub returns-then-bytes-ne-POSITION : goal.returns-then-bytes-ne-POSITION
 returns-then-bytes-ne-POSITION c = record {

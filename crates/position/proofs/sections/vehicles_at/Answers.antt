@@ -1,11 +1,11 @@
 -- One more vehicle stands at its place.
 -- Assumes nothing.
-use Rattle.std.proofs.Common.{arith, set, sym, ◌∙◌}
 use Rattle.position.proofs.Places.{vehicle_there}
+use Rattle.position.proofs.sections.vehicles_at.Goals as goal
+use Rattle.std.proofs.Common.{arith, set, sym, ◌∙◌}
 use Rattle.working.proofs.laws.OwnPlaces.{place_next}
 use Rattle.working.specs.Positions.{vehicles_in}
 use Rattle.working.specs.Sections.{pad_with}
-use Rattle.position.proofs.sections.vehicles_at.Goals as goal
 use mathlib.Core.Path.{ap₂}
 
 pub loop-i-init : goal.loop-i-init

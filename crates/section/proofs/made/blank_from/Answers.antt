@@ -1,9 +1,9 @@
 -- One more place is tested, and the pass ends at `from`, or at once where `from` is past the last place.
 -- Assumes nothing.
-use Rattle.std.proofs.Common.{arith, rules, length, ◌≡◌}
 use Rattle.section.proofs.Passes.{ends, goes_on_lem}
-use Rattle.section.specs.Made.{all_blank}
 use Rattle.section.proofs.made.blank_from.Goals as goal
+use Rattle.section.specs.Made.{all_blank}
+use Rattle.std.proofs.Common.{arith, length, rules, ◌≡◌}
 use Rattle.working.specs.Sections.{unused}
 use lib.Seq.{take_all}
 use mathlib.Core.Bool.{◌&&◌}

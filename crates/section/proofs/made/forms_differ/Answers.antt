@@ -1,9 +1,9 @@
 -- One more vehicle differs from those passed where its key is missing among theirs, and its key is noted with them.
 -- Assumes nothing.
-use Rattle.std.proofs.Common.{arith, rules, length, ◌≡◌, ◌∙◌}
 use Rattle.section.proofs.Keys.{one_noted}
 use Rattle.section.proofs.Passes.{goes_on_lem, one_before}
 use Rattle.section.proofs.made.forms_differ.Goals as goal
+use Rattle.std.proofs.Common.{arith, length, rules, ◌∙◌, ◌≡◌}
 use Rattle.working.specs.Sections.{unused}
 use Rattle.working.specs.WellMade.{differ}
 use mathlib.Core.Bool.{◌&&◌}

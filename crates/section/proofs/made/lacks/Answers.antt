@@ -1,9 +1,9 @@
 -- The pass ends at place 0, having tested all keys.
 -- Assumes nothing.
-use Rattle.std.proofs.Common.{arith, rules, length, ◌≡◌}
 use Rattle.section.proofs.Passes.{ends}
-use Rattle.section.specs.Made.{lacks}
 use Rattle.section.proofs.made.lacks.Goals as goal
+use Rattle.section.specs.Made.{lacks}
+use Rattle.std.proofs.Common.{arith, length, rules, ◌≡◌}
 use lib.Seq.{take_all}
 
 pub returns : goal.returns

@@ -1,10 +1,10 @@
 -- Fewer than 24 vehicles have been surveyed, so there is room for one more, and it stands in front of them.
 -- Assumes nothing.
-use Rattle.std.proofs.Common.{arith, rules, length, drop, take, ◌≡◌, length-drop}
 use Rattle.section.proofs.Passes.{goes_on_lem}
 use Rattle.section.proofs.Tallies.{room}
-use Rattle.section.specs.Made.{survey_of}
 use Rattle.section.proofs.made.survey_of.Goals as goal
+use Rattle.section.specs.Made.{survey_of}
+use Rattle.std.proofs.Common.{arith, drop, length, length-drop, rules, take, ◌≡◌}
 use Rattle.working.specs.Sections.{unused}
 use lib.ListN.{length-take}
 

@@ -4,7 +4,7 @@ use Rattle.section.proofs.made.well_made.Goals as goal
 use Rattle.working.specs.WellMade.{well_made}
 use borrow.Author.Tests.{le-leb, lt-leb}
 use lib.Dec.{eqb}
-use mathlib.Core.Bool.{Bool, ◌&&◌, ◌||◌, and_assoc, and-true, true}
+use mathlib.Core.Bool.{Bool, and-true, and_assoc, true, ◌&&◌, ◌||◌}
 use mathlib.Core.Path.{◌∙◌, ◌≡◌}
 
 pub returns-then-len-gt-PLACES : goal.returns-then-len-gt-PLACES

@@ -1,8 +1,8 @@
 -- The bytes behind the letters are the slice to its end.
 -- Assumes nothing.
 use Rattle.shelf.proofs.Titles.{to_end}
-use Rattle.working.specs.Shelves.{is_title}
 use Rattle.shelf.proofs.names.is_title.Goals as goal
+use Rattle.working.specs.Shelves.{is_title}
 
 pub returns : goal.returns
 unfolding is_title

@@ -1,9 +1,9 @@
 -- One more byte is compared with 0, and past the last nothing is left to compare.
 -- Assumes nothing.
-use Rattle.std.proofs.Common.{arith, ap, sym, ◌∙◌}
 use Rattle.shelf.proofs.Titles.{zero_end, zero_next}
 use Rattle.shelf.proofs.names.is_zero.Goals as goal
-use mathlib.Core.Bool.{◌&&◌, and_assoc}
+use Rattle.std.proofs.Common.{ap, arith, sym, ◌∙◌}
+use mathlib.Core.Bool.{and_assoc, ◌&&◌}
 
 pub loop-i-preserved : goal.loop-i-preserved
 loop-i-preserved c =

@@ -1,8 +1,8 @@
 -- All bytes are zero where those passed are, and the rest is.
 -- Assumes nothing.
-use Rattle.std.proofs.Common.{◌-◌, ◌≡◌, ◌≤◌, drop, length}
-use Rattle.working.specs.Shelves.{is_zero}
 use Rattle.shelf.proofs.names.is_zero.Given as goal
+use Rattle.std.proofs.Common.{drop, length, ◌-◌, ◌≡◌, ◌≤◌}
+use Rattle.working.specs.Shelves.{is_zero}
 use mathlib.Core.Bool.{◌&&◌}
 
 abbrev pub invariant-loop-i : goal.invariant-loop-i

@@ -1,8 +1,8 @@
 -- A byte that is a letter is one more, and one that is not ends the letters, as does the end of the bytes.
 -- Assumes nothing.
-use Rattle.std.proofs.Common.{arith, sym}
 use Rattle.shelf.proofs.Titles.{letters_end, letters_next, letters_stop}
 use Rattle.shelf.proofs.names.letters_in.Goals as goal
+use Rattle.std.proofs.Common.{arith, sym}
 
 pub returns-then-not-is_letter : goal.returns-then-not-is_letter
 returns-then-not-is_letter c =

@@ -1,9 +1,9 @@
 -- The place at `i` has the name, or one of those behind it has where one of those from `i` on has; from 16 on there is none.
 -- Assumes nothing.
-use Rattle.std.proofs.Common.{arith, sym, ◌-◌, ◌≡◌, ◌∙◌}
 use Rattle.shelf.proofs.Walk.{among_next}
-use Rattle.working.specs.Shelves.{is_among}
 use Rattle.shelf.proofs.places.is_among.Goals as goal
+use Rattle.std.proofs.Common.{arith, sym, ◌-◌, ◌∙◌, ◌≡◌}
+use Rattle.working.specs.Shelves.{is_among}
 
 pub returns-then-has_title : goal.returns-then-has_title
 returns-then-has_title c =

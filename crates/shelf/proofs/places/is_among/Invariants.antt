@@ -1,9 +1,9 @@
 -- One of the places has the name where one of those from `i` on has.
 -- Assumes nothing.
-use Rattle.std.proofs.Common.{◌-◌, ◌≡◌, ◌≤◌}
 use Rattle.shelf.proofs.Walk.{places_from}
-use Rattle.working.specs.Shelves.{is_among}
 use Rattle.shelf.proofs.places.is_among.Given as goal
+use Rattle.std.proofs.Common.{◌-◌, ◌≡◌, ◌≤◌}
+use Rattle.working.specs.Shelves.{is_among}
 
 abbrev pub invariant-loop-i : goal.invariant-loop-i
 invariant-loop-i l =

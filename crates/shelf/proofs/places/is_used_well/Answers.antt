@@ -1,8 +1,8 @@
 -- Its tests are the definition's, of the place's title, of its position and of the places behind it.
 -- Assumes nothing.
-use Rattle.std.proofs.Common.{arith, ◌*◌, ◌+◌, ◌-◌, ◌≡◌}
 use Rattle.shelf.proofs.Walk.{used_here}
 use Rattle.shelf.proofs.places.is_used_well.Goals as goal
+use Rattle.std.proofs.Common.{arith, ◌*◌, ◌+◌, ◌-◌, ◌≡◌}
 
 pub returns : goal.returns
 returns c =

@@ -1,9 +1,9 @@
 -- The place at `i` is the name's, or the name's is behind it; past the last there is none.
 -- Assumes nothing.
-use Rattle.std.proofs.Common.{arith, sym, ◌-◌, ◌≡◌, ◌∙◌}
 use Rattle.shelf.proofs.Walk.{place_next}
-use Rattle.working.specs.Shelves.{place_for}
 use Rattle.shelf.proofs.places.place_for.Goals as goal
+use Rattle.std.proofs.Common.{arith, sym, ◌-◌, ◌∙◌, ◌≡◌}
+use Rattle.working.specs.Shelves.{place_for}
 
 pub returns-then-has_title-shelf : goal.returns-then-has_title-shelf
 returns-then-has_title-shelf c =

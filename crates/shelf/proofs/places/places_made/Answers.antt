@@ -1,10 +1,10 @@
 -- A place of zeros asks for zeros behind it, and any other is used well.
 -- Assumes nothing.
-use Rattle.std.proofs.Common.{arith, ap, refl, sym, ◌*◌, ◌-◌, ◌≡◌, ◌∙◌}
 use Rattle.shelf.proofs.Titles.{to_end}
 use Rattle.shelf.proofs.Walk.{made_next}
-use Rattle.working.specs.Shelves.{is_zero, places_made}
 use Rattle.shelf.proofs.places.places_made.Goals as goal
+use Rattle.std.proofs.Common.{ap, arith, refl, sym, ◌*◌, ◌-◌, ◌∙◌, ◌≡◌}
+use Rattle.working.specs.Shelves.{is_zero, places_made}
 
 pub returns-then-is_zero : goal.returns-then-is_zero
 returns-then-is_zero c =

@@ -1,10 +1,10 @@
 -- Its tests are the definition's, in their order, so that the first that holds is the verdict; where none does, the position is copied to the buffer's front. Past its end a shelf
 -- has no byte, which is read as 0, so that a name without a place is refused by the third test.
 -- Assumes nothing.
-use Rattle.std.proofs.Common.{arith, refl, sym, ◌*◌, ◌+◌, ◌-◌, length, ◌≡◌, length-drop}
 use Rattle.shelf.proofs.Verdicts.{at_place, fetched, long-shelf, short_name}
-use Rattle.working.specs.Positions.{byte_at}
 use Rattle.shelf.proofs.shelves.fetch.Goals as goal
+use Rattle.std.proofs.Common.{arith, length, length-drop, refl, sym, ◌*◌, ◌+◌, ◌-◌, ◌≡◌}
+use Rattle.working.specs.Positions.{byte_at}
 use borrow.Author.Tests.{eq-eqb, le-ltb, ne_eqb}
 use lib.ListN.{get_or-eq_default, length-take}
 

@@ -1,8 +1,8 @@
 -- The length is compared with 4,688, and of that length `places_made` tests the 16 places.
 -- Assumes nothing.
+use Rattle.shelf.proofs.shelves.is_shelf.Goals as goal
 use Rattle.std.proofs.Common.{eq-eqb, length, ne_eqb}
 use Rattle.working.specs.Shelves.{is_shelf}
-use Rattle.shelf.proofs.shelves.is_shelf.Goals as goal
 
 pub returns-then-shelf-ne-SHELF : goal.returns-then-shelf-ne-SHELF
 unfolding is_shelf

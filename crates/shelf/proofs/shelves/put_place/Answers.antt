@@ -1,9 +1,9 @@
 -- Each copy is a paste of the whole shelf, and the second is behind the first.
 -- Assumes nothing.
-use Rattle.std.proofs.Common.{arith, length, ◌*◌, ◌+◌, ◌-◌, ◌≡◌, ◌∙◌, List, ℕ}
+use Rattle.shelf.proofs.shelves.put_place.Goals as goal
+use Rattle.std.proofs.Common.{List, arith, length, ℕ, ◌*◌, ◌+◌, ◌-◌, ◌∙◌, ◌≡◌}
 use Rattle.working.proofs.laws.Pastes.{paste_twice}
 use Rattle.working.specs.Entries.{pasted}
-use Rattle.shelf.proofs.shelves.put_place.Goals as goal
 use borrow.Rule.Slice.PartMut.{put_mid}
 use lib.Seq.{drop-drop}
 use mathlib.Core.Path.{ap₂}

@@ -1,10 +1,10 @@
 -- The word stored is the only one that is altered, and it is in range.
 -- Assumes nothing.
-use Rattle.std.proofs.Common.{arith, rules, length, ap, ◌≡◌, ◌∙◌}
+use Rattle.std.proofs.Common.{ap, arith, length, rules, ◌∙◌, ◌≡◌}
 use Rattle.words.proofs.DeskWords.{count_becomes}
+use Rattle.words.proofs.desks.count_refusal.Goals as goal
 use Rattle.words.specs.Words.{word_count}
 use Rattle.working.specs.Sections.{one_more}
-use Rattle.words.proofs.desks.count_refusal.Goals as goal
 
 pub returns : goal.returns
 returns c =

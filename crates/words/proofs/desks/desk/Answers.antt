@@ -1,9 +1,9 @@
 -- The words from a station's first on are the words of its desk, with others behind them.
 -- Assumes nothing.
-use Rattle.std.proofs.Common.{arith, rules, length, sym, ◌≡◌, ◌∙◌}
-use Rattle.words.proofs.DeskWords.{desk_at_lem, desk_first, desk-fits}
-use Rattle.words.specs.Words.{desk_from, word_count}
+use Rattle.std.proofs.Common.{arith, length, rules, sym, ◌∙◌, ◌≡◌}
+use Rattle.words.proofs.DeskWords.{desk-fits, desk_at_lem, desk_first}
 use Rattle.words.proofs.desks.desk.Goals as goal
+use Rattle.words.specs.Words.{desk_from, word_count}
 
 pub returns : goal.returns
 returns c =

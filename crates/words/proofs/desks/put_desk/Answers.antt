@@ -1,13 +1,13 @@
 -- One more figure is put in its place. At the end the words of the desk are its figures, and each fits its type, so that the desk is read back.
 -- Assumes nothing.
-use Rattle.std.proofs.Common.{arith, rules, ap, drop, length, take, ◌+◌, ◌++◌, ◌≡◌}
 use Rattle.section.proofs.Passes.{at_end}
+use Rattle.std.proofs.Common.{ap, arith, drop, length, rules, take, ◌++◌, ◌+◌, ◌≡◌}
 use Rattle.words.proofs.DeskWords.{Same, desk_back, desk_becomes, figure_next, figures-all, interval_back, put_as, put_next, ring-kept}
 use Rattle.words.proofs.Packing.{one_back_lem}
 use Rattle.words.proofs.Written.{words_count}
+use Rattle.words.proofs.desks.put_desk.Goals as goal
 use Rattle.words.specs.Words.{desk_from, desk_read, desk_words, desk_words_in}
 use Rattle.working.specs.WellMade.{desk_length, interval_number, one_if}
-use Rattle.words.proofs.desks.put_desk.Goals as goal
 
 pub loop-i-preserved : goal.loop-i-preserved
 loop-i-preserved c =

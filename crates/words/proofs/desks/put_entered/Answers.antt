@@ -2,8 +2,8 @@
 -- Assumes nothing.
 use Rattle.std.proofs.Common.{arith, ◌%◌, ◌≡◌}
 use Rattle.words.proofs.DeskWords.{desk_becomes, interval_back, put_next, ring-kept}
-use Rattle.working.specs.Sections.{with_entered}
 use Rattle.words.proofs.desks.put_entered.Goals as goal
+use Rattle.working.specs.Sections.{with_entered}
 use native.Mathlib.Nat.{mod-eq_of_lt}
 
 pub returns : goal.returns

@@ -2,8 +2,8 @@
 -- Assumes nothing.
 use Rattle.words.proofs.DeskWords.{desk_becomes}
 use Rattle.words.proofs.Packing.{one_back_lem}
-use Rattle.words.specs.Words.{with_out}
 use Rattle.words.proofs.desks.put_out.Goals as goal
+use Rattle.words.specs.Words.{with_out}
 
 pub returns : goal.returns
 returns c =

@@ -2,8 +2,8 @@
 -- Assumes nothing.
 use Rattle.std.proofs.Common.{arith, refl, ◌%◌, ◌≡◌}
 use Rattle.words.proofs.DeskWords.{desk_becomes, put_next}
-use Rattle.words.specs.Words.{with_receipt}
 use Rattle.words.proofs.desks.put_receipt.Goals as goal
+use Rattle.words.specs.Words.{with_receipt}
 use native.Mathlib.Nat.{mod-eq_of_lt}
 
 pub returns : goal.returns

@@ -2,8 +2,8 @@
 -- Assumes nothing.
 use Rattle.std.proofs.Common.{arith, refl, ◌%◌, ◌≡◌}
 use Rattle.words.proofs.DeskWords.{desk_becomes, ring-kept}
-use Rattle.words.specs.Words.{with_sent}
 use Rattle.words.proofs.desks.put_sent.Goals as goal
+use Rattle.words.specs.Words.{with_sent}
 use native.Mathlib.Nat.{mod-eq_of_lt}
 
 pub returns : goal.returns

@@ -2,8 +2,8 @@
 -- Assumes nothing.
 use Rattle.std.proofs.Common.{arith, refl, ◌%◌, ◌≡◌}
 use Rattle.words.proofs.DeskWords.{desk_becomes}
-use Rattle.words.specs.Words.{with_waiting}
 use Rattle.words.proofs.desks.put_waiting.Goals as goal
+use Rattle.words.specs.Words.{with_waiting}
 use native.Mathlib.Nat.{mod-eq_of_lt}
 
 pub returns : goal.returns

@@ -1,7 +1,7 @@
 -- `count` reads the three counts, as the definition does where it reads a section off the words.
 -- Assumes nothing.
-use Rattle.words.specs.Words.{section_in}
 use Rattle.words.proofs.desks.refused.Goals as goal
+use Rattle.words.specs.Words.{section_in}
 
 pub returns : goal.returns
 unfolding section_in

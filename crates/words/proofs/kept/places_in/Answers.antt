@@ -1,12 +1,12 @@
 -- One more vehicle stands at its place. At the end all that are present stand there, and the places behind them are unused.
 -- Assumes nothing.
-use Rattle.std.proofs.Common.{arith, ap, set, ◌∙◌}
 use Rattle.section.proofs.Passes.{at_end}
+use Rattle.std.proofs.Common.{ap, arith, set, ◌∙◌}
 use Rattle.words.proofs.VehiclesIn.{places_of}
+use Rattle.words.proofs.kept.places_in.Goals as goal
 use Rattle.words.specs.Words.{section_in}
 use Rattle.working.proofs.laws.OwnPlaces.{place_next}
 use Rattle.working.specs.Sections.{pad_to, pad_with, vehicles_of}
-use Rattle.words.proofs.kept.places_in.Goals as goal
 use lib.Seq.{take_all}
 use mathlib.Core.Path.{ap₂}
 

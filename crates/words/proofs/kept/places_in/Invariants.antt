@@ -1,10 +1,10 @@
 -- The places are those of the first `i` vehicles.
 -- Assumes nothing.
-use Rattle.std.proofs.Common.{◌-◌, ◌≡◌, take}
 use Rattle.section.proofs.Passes.{Up}
+use Rattle.std.proofs.Common.{take, ◌-◌, ◌≡◌}
+use Rattle.words.proofs.kept.places_in.Given as goal
 use Rattle.words.specs.Words.{section_in}
 use Rattle.working.specs.Sections.{pad_to, vehicles_of}
-use Rattle.words.proofs.kept.places_in.Given as goal
 
 abbrev pub invariant-loop-i : goal.invariant-loop-i
 invariant-loop-i l = Up l.present l.i (λ k. l.places ≡ pad_to 24 (take k (vehicles_of (section_in l.words))))

@@ -1,9 +1,9 @@
 -- One more vehicle enters at B's end.
 -- Assumes nothing.
-use Rattle.std.proofs.Common.{arith, rules, length, ◌≡◌}
+use Rattle.std.proofs.Common.{arith, length, rules, ◌≡◌}
 use Rattle.words.proofs.Keeping.{own_next}
-use Rattle.working.specs.Sections.{emptied}
 use Rattle.words.proofs.kept.present_words.Goals as goal
+use Rattle.working.specs.Sections.{emptied}
 
 pub loop-i-preserved : goal.loop-i-preserved
 loop-i-preserved c =

@@ -1,9 +1,9 @@
 -- Place i stands in the slot i on from the start.
 -- Assumes nothing.
-use Rattle.std.proofs.Common.{arith, ap, sym, ◌%◌, ◌+◌, ◌∙◌}
+use Rattle.std.proofs.Common.{ap, arith, sym, ◌%◌, ◌+◌, ◌∙◌}
 use Rattle.words.proofs.VehiclesIn.{present_length, vehicles_at, vehicles_of_lem}
-use Rattle.words.specs.Words.{ring_in, slots, vehicle_at}
 use Rattle.words.proofs.ring.at_place.Goals as goal
+use Rattle.words.specs.Words.{ring_in, slots, vehicle_at}
 
 pub slot_of-requires : goal.slot_of-requires
 slot_of-requires c = omega (arith, present_length c.args.words.now)

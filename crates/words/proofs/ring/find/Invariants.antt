@@ -1,11 +1,11 @@
 -- None of the first `i` is the one named, so that it is found `i` places further on than from there.
 -- Assumes nothing.
-use Rattle.std.proofs.Common.{◌+◌, ◌-◌, ◌≡◌, drop}
 use Rattle.section.proofs.Passes.{Up}
+use Rattle.std.proofs.Common.{drop, ◌+◌, ◌-◌, ◌≡◌}
+use Rattle.words.proofs.ring.find.Given as goal
 use Rattle.words.specs.Words.{section_in}
 use Rattle.working.specs.Reasons.{find_of}
 use Rattle.working.specs.Sections.{vehicles_of}
-use Rattle.words.proofs.ring.find.Given as goal
 
 abbrev pub invariant-loop-i : goal.invariant-loop-i
 invariant-loop-i l =

@@ -1,14 +1,14 @@
 -- Two that may meet are both present; each has then met another, and else nothing is altered.
 -- Assumes nothing.
-use Rattle.std.proofs.Common.{arith, ap, length, refl, sym, ◌+◌, ◌<◌, ◌∙◌}
+use Rattle.std.proofs.Common.{ap, arith, length, refl, sym, ◌+◌, ◌<◌, ◌∙◌}
 use Rattle.words.proofs.Becoming.{becomes_as}
 use Rattle.words.proofs.Ends.{both_met, met_length}
 use Rattle.words.proofs.VehiclesIn.{may_meet_in}
+use Rattle.words.proofs.ring.meet.Goals as goal
 use Rattle.words.specs.Words.{section_in}
 use Rattle.working.specs.Reasons.{may_meet}
 use Rattle.working.specs.Sections.{vehicles_of, with_vehicles}
 use Rattle.working.specs.Steps.{met_at}
-use Rattle.words.proofs.ring.meet.Goals as goal
 
 pub put_met-requires-then-may : goal.put_met-requires-then-may
 put_met-requires-then-may c =

@@ -1,10 +1,10 @@
 -- The first word stored is that of the vehicle that has met another.
 -- Assumes nothing.
-use Rattle.std.proofs.Common.{rules, ap, length, set, ◌%◌, ◌*◌, ◌+◌, ◌≡◌, ◌∙◌}
+use Rattle.std.proofs.Common.{ap, length, rules, set, ◌%◌, ◌*◌, ◌+◌, ◌∙◌, ◌≡◌}
 use Rattle.words.proofs.Ends.{met_becomes}
+use Rattle.words.proofs.ring.put_met.Goals as goal
 use Rattle.words.specs.Words.{first_word, ring_from, slots, word_count}
 use Rattle.working.specs.Steps.{redirected}
-use Rattle.words.proofs.ring.put_met.Goals as goal
 
 pub returns : goal.returns
 returns c =

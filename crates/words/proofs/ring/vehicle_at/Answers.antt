@@ -1,8 +1,8 @@
 -- The ring lies behind the other words.
 -- Assumes nothing.
 use Rattle.std.proofs.Common.{sym, ◌*◌, ◌+◌, ◌∙◌}
-use Rattle.words.specs.Words.{ring_from, vehicle_in}
 use Rattle.words.proofs.ring.vehicle_at.Goals as goal
+use Rattle.words.specs.Words.{ring_from, vehicle_in}
 use lib.Seq.{get_or-drop}
 use mathlib.Core.Path.{ap₂}
 

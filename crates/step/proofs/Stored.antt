@@ -1,11 +1,10 @@
--- Numbers stored one behind another are one paste of them all; and a whole slice copied over one of the same length.
+-- Numbers stored one behind another are one paste of them all.
 -- Assumes nothing.
 use Prim.Native.Nat.{◌+◌, ◌≤◌, suc, ℕ}
 use Rattle.entry.proofs.Pastes.{paste_none, paste_one, paste_twice}
 use Rattle.working.specs.Entries.{pasted}
-use lib.ListN.{drop, drop_of_length-le, length, length-set, set, take}
-use lib.Seq.{take_all}
-use mathlib.Core.List.{List, [], ◌++◌, ◌∷◌, append-nil}
+use lib.ListN.{length, length-set, set}
+use mathlib.Core.List.{List, [], ◌∷◌}
 use mathlib.Core.Path.{◌∙◌, ◌≡◌, ap, sym}
 use native.Mathlib.Numerals.{add-one}
 use native.Mathlib.Omega.{arith}
@@ -23,6 +22,3 @@ all-stored l at (n ∷ numbers) fits =
     ∙ ap (λ t. pasted t (suc at) numbers) first
     ∙ ap (λ k. pasted (pasted l at (n ∷ [])) k numbers) (sym (add-one at))
     ∙ paste_twice l at (n ∷ []) numbers (omega arith)
-
-pub whole_copied : (a b : List ℕ) → length a ≡ length b → take (length a) a ++ drop (length a) b ≡ a
-whole_copied a b long = rw (take_all (length a) a (omega arith), drop_of_length-le b {i = length a} (omega arith), append-nil a)

@@ -6,7 +6,6 @@ ghost use Rattle.working.specs.Steps.{step_of};
 ghost use Rattle.working.specs.WellMade.{well_made};
 
 use crate::running::{Last, advance};
-use bytes::copy;
 use entering::refuse;
 use position::{position_in, read};
 use words::{WORDS, Words};
@@ -83,6 +82,6 @@ pub fn step_position(position: &mut [u8], entry: &[u8], answer: &mut [u32]) -> u
     }
     let given = entered(&mut words, entry);
     let written = position_in(&words);
-    copy(&written, position);
+    position.copy_from_slice(&written);
     put_answer(answer, given)
 }

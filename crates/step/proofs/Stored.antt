@@ -1,11 +1,11 @@
 -- Numbers stored one behind another are one paste of them all.
 -- Assumes nothing.
-use Prim.Native.Nat.{◌+◌, ◌≤◌, suc, ℕ}
+use Prim.Native.Nat.{suc, ℕ, ◌+◌, ◌≤◌}
 use Rattle.entry.proofs.Pastes.{paste_none, paste_one, paste_twice}
 use Rattle.working.specs.Entries.{pasted}
 use lib.ListN.{length, length-set, set}
 use mathlib.Core.List.{List, [], ◌∷◌}
-use mathlib.Core.Path.{◌∙◌, ◌≡◌, ap, sym}
+use mathlib.Core.Path.{ap, sym, ◌∙◌, ◌≡◌}
 use native.Mathlib.Numerals.{add-one}
 use native.Mathlib.Omega.{arith}
 

@@ -1,5 +1,5 @@
 // The step on a section that a host keeps as a position, in its own bytes (T-06).
-ghost use Rattle.std.specs.Prelude.{◌≤◌, length, true, ◌≡◌};
+ghost use Rattle.std.specs.Prelude.{length, true, ◌≡◌, ◌≤◌};
 ghost use Rattle.words.specs.Words.{section_in};
 ghost use Rattle.working.specs.Positions.{StepsPosition, answer_in, refusal_of, speed_number};
 ghost use Rattle.working.specs.Steps.{step_of};

@@ -3,7 +3,7 @@
 // This is a test, held to what it writes. A read or a write that fails ends it.
 #![tactic(auto)]
 
-ghost use Rattle.std.specs.Prelude.{◌*◌, ◌+◌, ◌<◌, ◌≤◌, min, length, ◌≡◌};
+ghost use Rattle.std.specs.Prelude.{length, min, ◌*◌, ◌+◌, ◌<◌, ◌≡◌, ◌≤◌};
 ghost use Rattle.working.specs.Entries.{value_of};
 
 use std::io;

@@ -1,6 +1,6 @@
 -- A well-made section is its own lines padded, since its arrays have the places of their type.
 -- Assumes nothing.
-use Rattle.std.proofs.Common.{rules, length, ◌≡◌}
+use Rattle.std.proofs.Common.{length, rules, ◌≡◌}
 use Rattle.step.proofs.Own.{own_lines}
 use Rattle.step.proofs.double_stepping.double_words.Goals as goal
 

@@ -1,6 +1,6 @@
 -- A run of one entry is the step on its bytes, and where there are none the refusal is 1.
 -- Assumes nothing.
-use Rattle.std.proofs.Common.{◌∙◌, ap, sym}
+use Rattle.std.proofs.Common.{ap, sym, ◌∙◌}
 use Rattle.step.proofs.Advancing.{last_is}
 use Rattle.step.proofs.OneEntry.{answered, unanswered}
 use Rattle.step.proofs.positions.entered.Goals as goal

@@ -1,6 +1,6 @@
 -- The bytes are a position, and the words stand for the section that they say, which is well made.
 -- Assumes nothing.
-use Rattle.std.proofs.Common.{rules, length, ◌≡◌, ◌∙◌, sym}
+use Rattle.std.proofs.Common.{length, rules, sym, ◌∙◌, ◌≡◌}
 use Rattle.step.proofs.positions.step_position.Goals as goal
 use Rattle.working.proofs.theorems.Positions.{position_is, read_then_written}
 

@@ -1,7 +1,7 @@
 -- Each table has its own test, on the section that the words stand for.
 -- Assumes nothing.
-use Rattle.std.proofs.Common.{◌∙◌, ap}
 use Rattle.double.specs.WellMade as double
+use Rattle.std.proofs.Common.{ap, ◌∙◌}
 use Rattle.step.proofs.tables.is_made.Goals as goal
 use Rattle.working.specs.WellMade.{well_made}
 

@@ -11,7 +11,11 @@ pub mod Own
 -- ---- a listing: the line that comes next, and the filling of a block
 pub mod Next
 pub mod Filling
--- ---- texts and numbers stored, and listings by computation
+-- ---- what the forms of the step and the running of a log promise, by their contracts
+pub mod OfContracts
+-- ---- texts and numbers stored, listings by computation, and what the theorems say of logs written out
 pub mod Containing
 pub mod Stored
 pub mod Examples
+pub mod Consequences
+pub mod OfBlocks

@@ -2,7 +2,7 @@
 -- leaves in the words stands for where its block ended, so the calls are the blocks of `step`. The section's words are its own from the start on. The last line and its
 -- figures are the listing's own (specs/Answers.antt).
 -- Assumes nothing.
-use Prim.Native.Nat.{◌+◌, ◌≤◌, ℕ}
+use Prim.Native.Nat.{ℕ, ◌+◌, ◌≤◌}
 use Rattle.listing.specs.LineText.{end_line, long_line, longest_log}
 use Rattle.lupinshift.specs.Answers.{EndsTheListing, FiguresInTheEnd, last_figures_of}
 use Rattle.lupinshift.specs.State.{Begins, Fillings, FillingsAreListing, FillsOn, NoneMore, OwnFromTheStart, fill, listing_at, no_more, state_words}
@@ -21,7 +21,7 @@ use lib.ListN.{drop, length, take}
 use lib.Seq.{take_at}
 use mathlib.Core.Bool.{Bool, cond, false, true}
 use mathlib.Core.List.{List, [], ◌++◌, ◌∷◌}
-use mathlib.Core.Path.{◌∙◌, ◌≡◌, ap, ap₂, refl, subst, sym}
+use mathlib.Core.Path.{ap, ap₂, refl, subst, sym, ◌∙◌, ◌≡◌}
 use native.Mathlib.Omega.{arith}
 
 -- ---- the calls

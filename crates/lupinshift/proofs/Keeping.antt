@@ -1,24 +1,23 @@
 -- The section's words copied, and five numbers behind them, stand in a row before what was behind them: `stored`. Words so stored are those of the listing that they were
 -- made of: `holds`.
--- A call with too few words, and one with enough: `begins_none`, `begins`, `fills_none`, `fills`.
+-- With enough words lent, a buffer is filled from where they say that the listing stands: `fills`.
 -- Assumes nothing.
-use Prim.Native.Nat.{◌+◌, ◌<◌, ◌≤◌, ℕ}
-use Rattle.lupinshift.specs.State.{Begins, FillsOn, Keeps, figure_words, listed_at, listing_at, state_words}
-use Rattle.step.specs.ListingLines.{FillsWords, start_of}
+use Prim.Native.Nat.{ℕ, ◌+◌, ◌≤◌}
+use Rattle.lupinshift.specs.State.{FillsOn, Keeps, figure_words, listed_at, listing_at, state_words}
+use Rattle.step.specs.ListingLines.{FillsWords}
 use Rattle.step.specs.declared.next_line.Listed.{Listed}
 use Rattle.step.specs.declared.next_line.Put.{Put}
-use Rattle.words.specs.Words.{OwnWords, word_count}
+use Rattle.words.specs.Words.{word_count}
 use Rattle.working.specs.Entries.{pasted}
-use Rattle.working.specs.Sections.{fresh}
 use Rattle.working.specs.WellMade.{one_if}
 use Rattle.working.specs.declared.Table.TheVariants.{SingleLine}
-use borrow.Author.Tests.{ltb-false, ltb-true}
+use borrow.Author.Tests.{ltb-true}
 use lib.Dec.{eqb}
 use lib.ListN.{drop, get_or, length, length-append, length-drop, set, take}
-use lib.Seq.{drop_at, drop-drop, drop-length, get_or-drop, length-take-le, sets-eq, take_all, take_at}
+use lib.Seq.{drop-drop, drop-length, drop_at, get_or-drop, length-take-le, sets-eq, take_all, take_at}
 use mathlib.Core.Bool.{Bool, false, true}
-use mathlib.Core.List.{List, [], ◌++◌, ◌∷◌, append_assoc, append-nil}
-use mathlib.Core.Path.{◌∙◌, ◌≡◌, ap, refl, sym}
+use mathlib.Core.List.{List, [], append-nil, append_assoc, ◌++◌, ◌∷◌}
+use mathlib.Core.Path.{ap, refl, sym, ◌∙◌, ◌≡◌}
 use native.Mathlib.Omega.{arith}
 
 -- ---- words read
@@ -78,20 +77,7 @@ holds l words section after size room e =
       front = front;
     }
 
--- ---- the calls
-
-pub begins_none : {log words : List ℕ} → length words < state_words → Begins log words 0 words
-begins_none {words = words} few = record { short = λ e. (refl, refl); begins = λ e. absurd (omega (arith, ltb-false (length words) state_words e)) }
-
-pub begins : {log words after section : List ℕ} → state_words ≤ length words → OwnWords section fresh → Keeps section (start_of (length log)) words after
-    → Begins log words state_words after
-begins {words = words} enough own k = record {
-  short = λ e. absurd (omega (arith, ltb-true (length words) state_words e));
-  begins = λ e. record { count = refl; state = rw own.section at k.holds; own = k.front ∙ own.words };
-}
-
-pub fills_none : {words log out : List ℕ} → length words < state_words → FillsOn words log out 0 words out
-fills_none {words} few = record { short = λ e. (refl, refl, refl); fills = λ e. absurd (omega (arith, ltb-false (length words) state_words e)) }
+-- ---- a call
 
 pub fills : {words log out section words₁ out₁ : List ℕ} {r : Put} → state_words ≤ length words
     → FillsWords SingleLine log (take word_count words) (listed_at words) out r section out₁ → Keeps section r.listed words words₁ → FillsOn words log out r.behind words₁ out₁

@@ -1,6 +1,6 @@
 -- What a host is answered, and what its buffers then hold, by the definitions of a single line's listing and of a log's turns.
-use Rattle.std.specs.Prelude.{◌≤◌, ℕ, ltb, length, Bool, ◌||◌, cond, List, ◌++◌, ◌≡◌}
 use Rattle.listing.specs.LineText.{end_figure_count, end_line, last_line, longest_line, longest_log}
+use Rattle.std.specs.Prelude.{Bool, List, cond, length, ltb, ℕ, ◌++◌, ◌||◌, ◌≡◌, ◌≤◌}
 use Rattle.step.specs.Listings.{figures_in, joined, lines_of, listed_turns, listing_of, listing_room}
 use Rattle.step.specs.Running.{last_in}
 use Rattle.step.specs.declared.running.Last.TheVariants.{Answered, NoEntry}

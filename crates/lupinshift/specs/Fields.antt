@@ -1,6 +1,6 @@
 -- T-06: an entry written from its fields into lent bytes, and one read into fields. The map and the fields of an entry as ten numbers of 16 bits, in the order map, kind,
 -- station, time, view, class, asked, granted, sender, number.
-use Rattle.std.specs.Prelude.{min, ℕ, ltb, get_or, length, cond, List, ◌∷◌, ◌≡◌}
+use Rattle.std.specs.Prelude.{List, cond, get_or, length, ltb, min, ℕ, ◌∷◌, ◌≡◌}
 use Rattle.working.specs.Entries.{log_after, pasted, read_at, refusal_written, values_of, written_at}
 use Rattle.working.specs.Refusals.{number_of}
 use Rattle.working.specs.declared.Entry.{Entry}

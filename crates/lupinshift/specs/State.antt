@@ -1,6 +1,6 @@
 -- Where a single line's listing stands, in words that a host lends: what listing they stand for, of any words, and what the functions on them leave.
-use Rattle.std.specs.Prelude.{◌+◌, ◌<◌, ◌≤◌, ℕ, eqb, ltb, drop, get_or, length, take, false, true, List, [], ◌++◌, ◌∷◌, ◌≡◌}
 use Rattle.listing.specs.LineText.{longest_line}
+use Rattle.std.specs.Prelude.{List, [], drop, eqb, false, get_or, length, ltb, take, true, ℕ, ◌++◌, ◌+◌, ◌<◌, ◌∷◌, ◌≡◌, ◌≤◌}
 use Rattle.step.specs.ListingLines.{Listing, Portion, begun, block_of, largest_count, listed_of, listing_in}
 use Rattle.step.specs.Listings.{listing_of}
 use Rattle.step.specs.Tables.{Behind}

@@ -1,6 +1,6 @@
 // An entry of a single line as ten numbers: written into lent bytes, and read from them.
-ghost use Rattle.std.specs.Prelude.{◌≤◌, min, length, ◌≡◌};
 ghost use Rattle.lupinshift.specs.Fields.{ReadsEntry, WritesEntry, entry_from, fields_of, fields_read, number_read};
+ghost use Rattle.std.specs.Prelude.{length, min, ◌≡◌, ◌≤◌};
 ghost use Rattle.working.specs.Entries.{length_of, pasted};
 
 use entry::reading::first_entry;
@@ -22,6 +22,7 @@ fn byte_of(field: u16) -> u8
 }
 
 // The entry that ten numbers say.
+#[tactic(auto, unfolding(crate::specs::Fields::entry_from))]
 fn entry_from(fields: &[u16]) -> Entry
     requires { 10 ≤ length fields.now }
     ensures { result ≡ entry_from fields.now }

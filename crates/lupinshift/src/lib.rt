@@ -5,11 +5,11 @@
 
 ghost use Rattle.lupinshift.specs.Answers.{Ends, Figures, Lists, last_answer_of, last_of};
 ghost use Rattle.lupinshift.specs.State.{Begins, FillsOn};
+ghost use Rattle.std.specs.Prelude.{◌≡◌};
 ghost use Rattle.step.specs.Listings.{listing_room};
 ghost use Rattle.working.specs.Positions.{refusal_of};
 ghost use Rattle.working.specs.Sections.{fresh};
 ghost use Rattle.working.specs.Turns.{single, taken_in, turns_of};
-ghost use Rattle.std.specs.Prelude.{◌≡◌};
 
 mod entries;
 mod positions;

@@ -1,6 +1,6 @@
 // Where a listing stands, kept in words that a host lends: specs/State.antt says what listing they stand for.
-ghost use Rattle.std.specs.Prelude.{◌+◌, ◌≤◌, drop, length, take, ◌≡◌};
 ghost use Rattle.lupinshift.specs.State.{Keeps, listed_at, state_words};
+ghost use Rattle.std.specs.Prelude.{drop, length, take, ◌+◌, ◌≡◌, ◌≤◌};
 ghost use Rattle.words.specs.Words.{word_count};
 ghost use Rattle.working.specs.Entries.{pasted};
 ghost use Rattle.working.specs.WellMade.{one_if};

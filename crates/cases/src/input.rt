@@ -1,7 +1,7 @@
 // A case of those on standard input, which are read from memory: what it is, its head, whose last two bytes are a length, and so many bytes behind them.
-ghost use Rattle.std.specs.Io.{ReadsAtMost};
-ghost use Rattle.std.specs.Prelude.{◌<◌, ◌≤◌, IfOk, length, ◌≡◌};
 ghost use Rattle.figures.specs.Figures.{longest_head};
+ghost use Rattle.std.specs.Io.{ReadsAtMost};
+ghost use Rattle.std.specs.Prelude.{IfOk, length, ◌<◌, ◌≡◌, ◌≤◌};
 
 use figures::{Head, LONGEST_HEAD, number_at};
 use std::io;

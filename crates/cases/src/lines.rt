@@ -1,5 +1,5 @@
 // The lines that say what came of a case.
-ghost use Rattle.std.specs.Prelude.{◌≤◌, length};
+ghost use Rattle.std.specs.Prelude.{length, ◌≤◌};
 
 use crate::sections::{digest, places_used};
 use crate::text::{

@@ -2,7 +2,7 @@
 // docs/CASES.md has the two formats. The second program wrote the cases, and `stdout` is what it says must come of them.
 #![tactic(auto)]
 
-ghost use Rattle.std.specs.Prelude.{◌≤◌, length};
+ghost use Rattle.std.specs.Prelude.{length, ◌≤◌};
 
 use figures::{Head, LONGEST_HEAD, entry_in, number_at, section_in};
 use input::read_case;

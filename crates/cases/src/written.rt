@@ -1,5 +1,5 @@
 // A case of an entry handed to the writer, by a table: behind a fill point, and at the front of another copy of the buffer.
-ghost use Rattle.std.specs.Prelude.{◌≤◌, length};
+ghost use Rattle.std.specs.Prelude.{length, ◌≤◌};
 
 use crate::lines::{write_place, write_written};
 use crate::text::write_hex;

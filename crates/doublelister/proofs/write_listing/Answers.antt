@@ -1,10 +1,10 @@
 -- A block that has room for a line leaves fewer lines to come.
 -- Assumes nothing.
-use Rattle.std.proofs.Common.{arith, false, length, rules, ◌≡◌}
+use Rattle.doubleentering.specs.DoubleWords.{double_in}
 use Rattle.doublelister.proofs.write_listing.Goals as goal
+use Rattle.std.proofs.Common.{arith, false, length, rules, ◌≡◌}
 use Rattle.step.proofs.Ending.{block_fewer}
 use Rattle.step.specs.ListingLines.{listing_in}
-use Rattle.doubleentering.specs.DoubleWords.{double_in}
 use Rattle.working.specs.declared.Table.TheVariants.{DoubleLine}
 
 pub loop-listed-smaller : goal.loop-listed-smaller

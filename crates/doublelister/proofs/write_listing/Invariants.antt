@@ -1,11 +1,11 @@
 -- `doublelister::write_listing` is safe and ends: what is filled fits the block, and a block leaves fewer lines to come.
 -- Assumes nothing.
-use Rattle.std.proofs.Common.{length, ◌≤◌}
+use Rattle.doubleentering.specs.DoubleWords.{double_in}
 use Rattle.doublelister.proofs.write_listing.Given as goal
 use Rattle.listing.specs.LineText.{longest_line}
+use Rattle.std.proofs.Common.{length, ◌≤◌}
 use Rattle.step.proofs.Ending.{lines_left}
 use Rattle.step.specs.ListingLines.{listing_in}
-use Rattle.doubleentering.specs.DoubleWords.{double_in}
 
 abbrev pub invariant-loop-listed : goal.invariant-loop-listed
 invariant-loop-listed g l = longest_line ≤ length l.block

@@ -1,7 +1,7 @@
 -- A block that has room for a line leaves fewer lines to come.
 -- Assumes nothing.
-use Rattle.std.proofs.Common.{arith, false, length, rules, ◌≡◌}
 use Rattle.lister.proofs.write_listing.Goals as goal
+use Rattle.std.proofs.Common.{arith, false, length, rules, ◌≡◌}
 use Rattle.step.proofs.Ending.{block_fewer}
 use Rattle.step.specs.ListingLines.{listing_in}
 use Rattle.words.specs.Words.{section_in}

@@ -1,8 +1,8 @@
 -- `lister::write_listing` is safe and ends: what is filled fits the block, and a block leaves fewer lines to come.
 -- Assumes nothing.
-use Rattle.std.proofs.Common.{length, ◌≤◌}
 use Rattle.lister.proofs.write_listing.Given as goal
 use Rattle.listing.specs.LineText.{longest_line}
+use Rattle.std.proofs.Common.{length, ◌≤◌}
 use Rattle.step.proofs.Ending.{lines_left}
 use Rattle.step.specs.ListingLines.{listing_in}
 use Rattle.words.specs.Words.{section_in}

@@ -1,7 +1,7 @@
 -- `sections::places_used` is safe and ends: the bytes of the places are counted.
 -- Assumes nothing.
-use Rattle.std.proofs.Common.{◌-◌, ◌≤◌}
 use Rattle.cases.proofs.sections.places_used.Given as goal
+use Rattle.std.proofs.Common.{◌-◌, ◌≤◌}
 
 abbrev pub invariant-loop-i : goal.invariant-loop-i
 invariant-loop-i l = l.i ≤ 240

@@ -1,7 +1,7 @@
 -- `stepped::put_numbers` is safe and ends: the twelve places are counted.
 -- Assumes nothing.
-use Rattle.std.proofs.Common.{◌-◌, ◌≤◌}
 use Rattle.doublecases.proofs.stepped.put_numbers.Given as goal
+use Rattle.std.proofs.Common.{◌-◌, ◌≤◌}
 
 abbrev pub invariant-loop-i : goal.invariant-loop-i
 invariant-loop-i l = l.i ≤ 12

@@ -1,12 +1,12 @@
 -- What the contracts of specs/Answers.antt say of calls that are written out, with every bound in figures on both its sides, and what its theorems then say: of document 01's
 -- session, of a log that is one BEGIN, and of logs of which only the length is known. Whoever is handed the contract of such a call knows its answer and every byte.
 -- Assumes nothing.
-use Prim.Native.Nat.{◌+◌, ℕ}
+use Prim.Native.Nat.{ℕ, ◌+◌}
 use Rattle.listing.specs.LineText.{end_line, figures_text}
 use Rattle.lupinshift.proofs.Fillings.{ends_the_listing, figures_in_the_end}
 use Rattle.lupinshift.specs.Answers.{Ends, Figures, Gives, Lists, last_answer_of, last_figures_of, last_line_of}
 use Rattle.step.proofs.Examples.{listing_computes}
-use Rattle.step.proofs.OfBlocks.{begin, begin_listed_lem, begin_listed, long_listed}
+use Rattle.step.proofs.OfBlocks.{begin, begin_listed, begin_listed_lem, long_listed}
 use Rattle.step.specs.Listings.{joined, lines_of, listing_of}
 use Rattle.working.proofs.examples.Session.{session}
 use Rattle.working.specs.Sections.{fresh}
@@ -16,7 +16,7 @@ use borrow.Author.Tests.{le-ltb, lt-ltb}
 use lib.ListN.{drop, length, take}
 use mathlib.Core.Bool.{Bool, false, true}
 use mathlib.Core.List.{List, [], ◌++◌, ◌∷◌}
-use mathlib.Core.Path.{◌∙◌, ◌≡◌, ap, refl, subst}
+use mathlib.Core.Path.{ap, refl, subst, ◌∙◌, ◌≡◌}
 use native.Mathlib.Omega.{arith}
 
 -- ---- buffers

@@ -1,7 +1,7 @@
 -- What the contracts of specs/Fields.antt say of entries that are written out, in the bytes and numbers of docs/FORMAT.md: whoever is handed the contract of such a call knows
 -- its answer, and every number or byte that it leaves.
 -- Assumes nothing.
-use Prim.Native.Nat.{◌+◌, ℕ}
+use Prim.Native.Nat.{ℕ, ◌+◌}
 use Rattle.lupinshift.specs.Fields.{ReadsEntry, WritesEntry, entry_from, fields_read, number_read}
 use Rattle.working.proofs.examples.Computing.{reading_computes}
 use Rattle.working.specs.Entries.{bytes_of, judge, length_of, log_after, log_as, pasted, read_at, refusal_written, written_as, written_at}
@@ -11,7 +11,7 @@ use lib.Dec.{leb, ltb}
 use lib.ListN.{drop, length}
 use mathlib.Core.Bool.{cond}
 use mathlib.Core.List.{List, [], ◌++◌, ◌∷◌}
-use mathlib.Core.Path.{◌∙◌, ◌≡◌, refl}
+use mathlib.Core.Path.{refl, ◌∙◌, ◌≡◌}
 
 -- ---- reading
 

@@ -2,7 +2,7 @@
 -- is listed by calls with buffers of 214 bytes, which take a line each, and whoever is handed their contracts knows each answer, byte and word. So it is from words that
 -- stand for no well-made section; and of any log of fewer than 2^64 - 1 bytes the calls come to the listing.
 -- Assumes nothing.
-use Prim.Native.Nat.{◌+◌, ◌-◌, ◌<◌, ◌≤◌, suc, zero, ℕ}
+use Prim.Native.Nat.{suc, zero, ℕ, ◌+◌, ◌-◌, ◌<◌, ◌≤◌}
 use Rattle.listing.specs.LineText.{longest_log}
 use Rattle.lupinshift.proofs.Fillings.{fillings, none_more, own_from_the_start}
 use Rattle.lupinshift.proofs.OfAnswers.{Front}
@@ -10,7 +10,7 @@ use Rattle.lupinshift.specs.State.{Begins, Fillings, FillsFrom, FillsOn, StandsF
 use Rattle.step.proofs.Examples.{listing_computes}
 use Rattle.step.proofs.Filling.{has_ended, line_comes, no_room}
 use Rattle.step.proofs.Next.{some_line}
-use Rattle.step.proofs.OfBlocks.{begin, begin_listed_lem, begin_listed, long_listed}
+use Rattle.step.proofs.OfBlocks.{begin, begin_listed, begin_listed_lem, long_listed}
 use Rattle.step.specs.ListingLines.{Listing, Portion, block_of, listed_of, next_line, no_line, turns_left, with_more}
 use Rattle.step.specs.Listings.{listing_of}
 use Rattle.step.specs.Tables.{start_over, start_turned}
@@ -23,7 +23,7 @@ use borrow.Author.Tests.{eq-eqb, eqb-true, le-ltb, lt-ltb}
 use lib.ListN.{drop, get_or, length, take, take-append-drop}
 use mathlib.Core.Bool.{false}
 use mathlib.Core.List.{List, [], ◌++◌, ◌∷◌}
-use mathlib.Core.Path.{◌∙◌, ◌≡◌, ap, refl, sym}
+use mathlib.Core.Path.{ap, refl, sym, ◌∙◌, ◌≡◌}
 use native.Mathlib.Omega.{arith}
 
 -- ---- the words

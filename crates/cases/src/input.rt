@@ -1,4 +1,4 @@
-// A case of those on standard input, which are read from memory: what it is, its head, whose last two bytes are a length, and so many bytes behind them.
+// A case on standard input: what it is, its head, whose last two bytes are a length, and so many bytes behind them.
 ghost use Rattle.figures.specs.Figures.{longest_head};
 ghost use Rattle.std.specs.Io.{ReadsAtMost};
 ghost use Rattle.std.specs.Prelude.{IfOk, length, ◌<◌, ◌≡◌, ◌≤◌};
@@ -21,20 +21,35 @@ pub(crate) fn wide(byte: u8) -> u64
     byte as u64
 }
 
+// Fills the room from the input, as far as that reaches; how many bytes came. A read that fails ends it.
+fn fill(input: &mut impl Read, room: &mut [u8]) -> io::Result<usize>
+    ensures { ReadsAtMost result room.new }
+{
+    let mut done = 0usize;
+    while done < room.len() {
+        let count = input.read(&mut room[done..])?;
+        if count == 0 {
+            break;
+        }
+        done += count;
+    }
+    Ok(done)
+}
+
 // Reads so many bytes to the front of the room, where it has room for them; how many came.
-fn read_bytes(input: &mut &[u8], room: &mut [u8], count: usize) -> io::Result<usize>
+fn read_bytes(input: &mut impl Read, room: &mut [u8], count: usize) -> io::Result<usize>
     ensures { ReadsAtMost result room.new }
 {
     if room.len() < count {
         return Ok(0);
     }
-    input.read(&mut room[..count])
+    fill(input, &mut room[..count])
 }
 
 // What the next case is; 0 at the end of the input.
-fn read_kind(input: &mut &[u8]) -> io::Result<u8> {
+fn read_kind(input: &mut impl Read) -> io::Result<u8> {
     let mut first = [0u8; 1];
-    input.read(&mut first)?;
+    fill(input, &mut first)?;
     Ok(first[0])
 }
 
@@ -52,7 +67,7 @@ fn head_length(kind: u8) -> usize
 }
 
 // Reads the next case, its head to the front of the head lent and its bytes to the front of the room.
-pub(crate) fn read_case(input: &mut &[u8], head: &mut Head, room: &mut [u8]) -> io::Result<Case>
+pub(crate) fn read_case(input: &mut impl Read, head: &mut Head, room: &mut [u8]) -> io::Result<Case>
     ensures { IfOk result (λ case. case.count ≤ length room.new) }
 {
     let kind = read_kind(input)?;

@@ -7,19 +7,18 @@ use crate::text::{
 };
 use figures::{PRESENT, case_bytes};
 use std::io;
-use std::io::Write;
 use step::{Last, Ran};
 use working::{Answer, Entry, Read, Section, Speed, Stepped, Written};
 
 // A word, a number of the case, and the end of the line.
-pub(crate) fn write_length(out: &mut impl Write, word: &[u8], length: usize) -> io::Result<()> {
+pub(crate) fn write_length(out: &impl Print, word: &[u8], length: usize) -> io::Result<()> {
     write_figure(out, word, length as u64)?;
     write(out, b"\n")
 }
 
 // A word, two numbers of the case, and the end of the line.
 pub(crate) fn write_place(
-    out: &mut impl Write,
+    out: &impl Print,
     word: &[u8],
     place: usize,
     length: usize,
@@ -28,12 +27,12 @@ pub(crate) fn write_place(
     write_length(out, b"", length)
 }
 
-fn write_refusal(out: &mut impl Write, number: u8) -> io::Result<()> {
+fn write_refusal(out: &impl Print, number: u8) -> io::Result<()> {
     write_figure(out, b" no", number as u64)
 }
 
 // A speed as the lister prints it.
-fn write_speed(out: &mut impl Write, speed: Speed) -> io::Result<()> {
+fn write_speed(out: &impl Print, speed: Speed) -> io::Result<()> {
     match speed {
         Speed::NoSpeed => write(out, b" -"),
         Speed::Walking => write(out, b" W"),
@@ -50,7 +49,7 @@ fn write_speed(out: &mut impl Write, speed: Speed) -> io::Result<()> {
     }
 }
 
-fn write_answer(out: &mut impl Write, answer: Answer) -> io::Result<()> {
+fn write_answer(out: &impl Print, answer: Answer) -> io::Result<()> {
     match answer {
         Answer::Refused(why) => write_refusal(out, why.number()),
         Answer::Accepted { form, forms, speed } => {
@@ -77,12 +76,12 @@ fn entry_fields(e: Entry) -> [u64; 10] {
     ]
 }
 
-fn write_fields(out: &mut impl Write, e: Entry) -> io::Result<()> {
+fn write_fields(out: &impl Print, e: Entry) -> io::Result<()> {
     write(out, b" entry")?;
     write_numbers(out, &entry_fields(e))
 }
 
-fn write_read(out: &mut impl Write, read: Read) -> io::Result<()> {
+fn write_read(out: &impl Print, read: Read) -> io::Result<()> {
     match read {
         Read::End => write(out, b" end"),
         Read::Whole(e, _) => write_fields(out, e),
@@ -92,7 +91,7 @@ fn write_read(out: &mut impl Write, read: Read) -> io::Result<()> {
 
 // `at`, an offset, what a reader reads there, `next`, and where it then stands.
 pub(crate) fn write_seen(
-    out: &mut impl Write,
+    out: &impl Print,
     offset: usize,
     read: Read,
     next: usize,
@@ -103,14 +102,14 @@ pub(crate) fn write_seen(
 }
 
 // A word and an answer.
-pub(crate) fn write_answered(out: &mut impl Write, word: &[u8], answer: Answer) -> io::Result<()> {
+pub(crate) fn write_answered(out: &impl Print, word: &[u8], answer: Answer) -> io::Result<()> {
     write(out, word)?;
     write_answer(out, answer)?;
     write(out, b"\n")
 }
 
 // A word, an answer, and the digest of the section after it.
-pub(crate) fn write_stepped(out: &mut impl Write, word: &[u8], after: Stepped) -> io::Result<()> {
+pub(crate) fn write_stepped(out: &impl Print, word: &[u8], after: Stepped) -> io::Result<()> {
     let s = after.section;
     let answer = after.answer;
     write(out, word)?;
@@ -120,7 +119,7 @@ pub(crate) fn write_stepped(out: &mut impl Write, word: &[u8], after: Stepped) -
 }
 
 // The last answer of a run, where it had an entry.
-fn write_last(out: &mut impl Write, last: Last) -> io::Result<()> {
+fn write_last(out: &impl Print, last: Last) -> io::Result<()> {
     match last {
         Last::Answered(answer) => write_answer(out, answer),
         Last::NoEntry => write(out, b" none"),
@@ -128,7 +127,7 @@ fn write_last(out: &mut impl Write, last: Last) -> io::Result<()> {
 }
 
 // What a log comes to: its entries, those accepted, the last answer, and the digest of the section after it.
-pub(crate) fn write_ran(out: &mut impl Write, ran: Ran) -> io::Result<()> {
+pub(crate) fn write_ran(out: &impl Print, ran: Ran) -> io::Result<()> {
     let s = ran.section;
     let last = ran.last;
     write_figure(out, b"run", ran.entries as u64)?;
@@ -139,7 +138,7 @@ pub(crate) fn write_ran(out: &mut impl Write, ran: Ran) -> io::Result<()> {
 }
 
 // The figures behind the places, and then the bytes that the places in use take.
-fn write_figures(out: &mut impl Write, figures: &[u8], used: usize) -> io::Result<()>
+fn write_figures(out: &impl Print, figures: &[u8], used: usize) -> io::Result<()>
     requires { 240 ≤ length figures.now }
 {
     write_bytes(out, &figures[PRESENT..])?;
@@ -147,7 +146,7 @@ fn write_figures(out: &mut impl Write, figures: &[u8], used: usize) -> io::Resul
 }
 
 // A word and a section's figures, without the unused places behind the last in use.
-pub(crate) fn write_section(out: &mut impl Write, word: &[u8], s: Section) -> io::Result<()> {
+pub(crate) fn write_section(out: &impl Print, word: &[u8], s: Section) -> io::Result<()> {
     let figures = case_bytes(s);
     let used = places_used(&figures);
     write(out, word)?;
@@ -157,7 +156,7 @@ pub(crate) fn write_section(out: &mut impl Write, word: &[u8], s: Section) -> io
 }
 
 // A word and what the writer answered.
-pub(crate) fn write_written(out: &mut impl Write, word: &[u8], written: Written) -> io::Result<()> {
+pub(crate) fn write_written(out: &impl Print, word: &[u8], written: Written) -> io::Result<()> {
     let number = written.number();
     write(out, word)?;
     if number == 0 {

@@ -8,7 +8,7 @@ use figures::{Head, LONGEST_HEAD, entry_in, number_at, section_in};
 use input::read_case;
 use logs::{run_log, run_offset};
 use std::io;
-use std::io::{BufWriter, Read, Write};
+use std::io::Read;
 use steps::run_step;
 use working::Table;
 use written::run_write;
@@ -33,7 +33,7 @@ fn table_of(kind: u8) -> Table {
 }
 
 // Runs a case of which the head and the bytes were read.
-fn run_case(out: &mut impl Write, kind: u8, head: &Head, bytes: &mut [u8]) -> io::Result<()>
+fn run_case(out: &impl Print, kind: u8, head: &Head, bytes: &mut [u8]) -> io::Result<()>
     requires { length bytes.old ≤ 4096 }
 {
     match kind {
@@ -51,7 +51,7 @@ fn run_case(out: &mut impl Write, kind: u8, head: &Head, bytes: &mut [u8]) -> io
 }
 
 // Runs the next case, whose bytes are read into the room lent; says whether there was a whole one.
-fn run_next(input: &mut &[u8], out: &mut impl Write, room: &mut [u8]) -> io::Result<bool>
+fn run_next(input: &mut impl Read, out: &impl Print, room: &mut [u8]) -> io::Result<bool>
     requires { length room.old ≤ 4096 }
 {
     let mut head = [0u8; LONGEST_HEAD];
@@ -66,15 +66,12 @@ fn run_next(input: &mut &[u8], out: &mut impl Write, room: &mut [u8]) -> io::Res
 
 // Runs at most 65,536 cases.
 fn main(rt: HostRuntime) -> io::Result<()> {
-    let mut stored = Vec::new(rt.alloc());
-    rt.stdin().read_to_end(&mut stored)?;
-    let mut input = stored.as_slice();
-    let mut out = BufWriter::new(rt.alloc(), io::writer(&rt))?;
+    let mut input = rt.stdin();
     let mut room = [0u8; 4096];
     for _ in 0..65536 {
-        if !run_next(&mut input, &mut out, &mut room)? {
+        if !run_next(&mut input, &rt, &mut room)? {
             break;
         }
     }
-    out.flush()
+    Ok(())
 }

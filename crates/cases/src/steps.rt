@@ -2,12 +2,11 @@
 use crate::lines::{write_answered, write_length, write_ran, write_section};
 use crate::memory::step_via;
 use std::io;
-use std::io::Write;
 use step::{run, step};
 use working::{Section, Stepped};
 
 // An answer, and the section after it.
-fn write_step(out: &mut impl Write, word: &[u8], after: Stepped) -> io::Result<()> {
+fn write_step(out: &impl Print, word: &[u8], after: Stepped) -> io::Result<()> {
     let s = after.section;
     let answer = after.answer;
     write_answered(out, word, answer)?;
@@ -15,7 +14,7 @@ fn write_step(out: &mut impl Write, word: &[u8], after: Stepped) -> io::Result<(
 }
 
 // The lines of both forms of the step on the same section and bytes, and of their run.
-pub(crate) fn run_step(out: &mut impl Write, s: Section, bytes: &[u8]) -> io::Result<()> {
+pub(crate) fn run_step(out: &impl Print, s: Section, bytes: &[u8]) -> io::Result<()> {
     write_length(out, b"step", bytes.len())?;
     write_step(out, b"value", step(s, bytes))?;
     write_step(out, b"memory", step_via(s, bytes))?;

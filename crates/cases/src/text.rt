@@ -1,27 +1,26 @@
-// Text written piece by piece.
+// Text written to standard output, piece by piece.
 ghost use Rattle.std.specs.Prelude.{take, ◌≡◌};
 
 use std::io;
-use std::io::Write;
 
 // A word, or the end of a line.
-pub(crate) fn write(out: &mut impl Write, word: &[u8]) -> io::Result<()> {
+pub(crate) fn write(out: &impl Print, word: &[u8]) -> io::Result<()> {
     out.write_all(word)
 }
 
 // A number in decimal digits.
-pub(crate) fn write_digits(out: &mut impl Write, n: u64) -> io::Result<()> {
-    write!(out, "{n}")
+pub(crate) fn write_digits(out: &impl Print, n: u64) -> io::Result<()> {
+    print!(out; "{n}")
 }
 
 // A blank and a number.
-pub(crate) fn write_number(out: &mut impl Write, n: u64) -> io::Result<()> {
+pub(crate) fn write_number(out: &impl Print, n: u64) -> io::Result<()> {
     write(out, b" ")?;
     write_digits(out, n)
 }
 
 // Numbers one behind the other.
-pub(crate) fn write_numbers(out: &mut impl Write, numbers: &[u64]) -> io::Result<()> {
+pub(crate) fn write_numbers(out: &impl Print, numbers: &[u64]) -> io::Result<()> {
     for number in numbers {
         write_number(out, *number)?;
     }
@@ -29,7 +28,7 @@ pub(crate) fn write_numbers(out: &mut impl Write, numbers: &[u64]) -> io::Result
 }
 
 // A word and a number behind it.
-pub(crate) fn write_figure(out: &mut impl Write, word: &[u8], n: u64) -> io::Result<()> {
+pub(crate) fn write_figure(out: &impl Print, word: &[u8], n: u64) -> io::Result<()> {
     write(out, word)?;
     write_number(out, n)
 }
@@ -46,15 +45,15 @@ pub(crate) fn front(bytes: &[u8], count: usize) -> &[u8]
 }
 
 // Bytes in hex, two digits each.
-pub(crate) fn write_bytes(out: &mut impl Write, bytes: &[u8]) -> io::Result<()> {
+pub(crate) fn write_bytes(out: &impl Print, bytes: &[u8]) -> io::Result<()> {
     for byte in bytes {
-        write!(out, "{byte:02x}")?;
+        print!(out; "{byte:02x}")?;
     }
     Ok(())
 }
 
 // A word, a blank, bytes in hex, and the end of the line.
-pub(crate) fn write_hex(out: &mut impl Write, word: &[u8], bytes: &[u8]) -> io::Result<()> {
+pub(crate) fn write_hex(out: &impl Print, word: &[u8], bytes: &[u8]) -> io::Result<()> {
     write(out, word)?;
     write(out, b" ")?;
     write_bytes(out, bytes)?;

@@ -6,12 +6,11 @@ use crate::text::write_hex;
 use entry::writing::{append, write_entry};
 use figures::put_bytes;
 use std::io;
-use std::io::Write;
 use working::{Entry, Table};
 
 // The entry appended to the buffer, and the buffer after it.
 fn write_behind(
-    out: &mut impl Write,
+    out: &impl Print,
     table: Table,
     buffer: &mut [u8],
     fill: usize,
@@ -22,14 +21,14 @@ fn write_behind(
 }
 
 // The entry written at the front of the buffer, and the buffer after it.
-fn write_front(out: &mut impl Write, table: Table, buffer: &mut [u8], e: Entry) -> io::Result<()> {
+fn write_front(out: &impl Print, table: Table, buffer: &mut [u8], e: Entry) -> io::Result<()> {
     write_written(out, b"front", write_entry(table, buffer, e))?;
     write_hex(out, b"buffer", buffer)
 }
 
 // The lines of both: the copy is taken before anything is written.
 pub(crate) fn run_write(
-    out: &mut impl Write,
+    out: &impl Print,
     table: Table,
     buffer: &mut [u8],
     fill: usize,

@@ -3,6 +3,7 @@
 // This is a test, held to what it writes. A read or a write that fails ends it.
 #![tactic(auto)]
 
+ghost use Rattle.std.specs.Io.{ReadsAtMost};
 ghost use Rattle.std.specs.Prelude.{length, min, ◌*◌, ◌+◌, ◌<◌, ◌≡◌, ◌≤◌};
 ghost use Rattle.working.specs.Entries.{value_of};
 
@@ -11,6 +12,21 @@ use std::io::Read;
 
 // Room for the longest log and a byte more, which tells a longer one.
 const ROOM: usize = 65537;
+
+// Fills the room from the input, as far as that reaches; how many bytes came. A read that fails ends it.
+fn fill(input: &mut impl Read, room: &mut [u8]) -> io::Result<usize>
+    ensures { ReadsAtMost result room.new }
+{
+    let mut done = 0usize;
+    while done < room.len() {
+        let count = input.read(&mut room[done..])?;
+        if count == 0 {
+            break;
+        }
+        done += count;
+    }
+    Ok(done)
+}
 
 // The number that two bytes stand for, high byte first.
 fn pair(high: u8, low: u8) -> usize
@@ -45,19 +61,19 @@ fn list(out: &impl Print, double: bool, log: &[u8], block: &mut [u8]) -> io::Res
 
 // Fills the log lent from the input and lists what was read.
 fn list_read(
-    input: &mut &[u8],
+    input: &mut impl Read,
     out: &impl Print,
     double: bool,
     log: &mut [u8],
     block: &mut [u8],
 ) -> io::Result<()> {
-    let read = input.read(log)?;
+    let read = fill(input, log)?;
     list(out, double, &log[..read], block)
 }
 
 // Lists one log, read into the room lent; says whether there was one.
 fn list_next(
-    input: &mut &[u8],
+    input: &mut impl Read,
     out: &impl Print,
     room: &mut [u8],
     block: &mut [u8],
@@ -66,8 +82,8 @@ fn list_next(
 {
     let mut first = [0u8; 1];
     let mut head = [0u8; 4];
-    input.read(&mut first)?;
-    if input.read(&mut head)? < 4 {
+    fill(input, &mut first)?;
+    if fill(input, &mut head)? < 4 {
         return Ok(false);
     }
     let length = packed_length(head);
@@ -76,9 +92,7 @@ fn list_next(
 }
 
 fn main(rt: HostRuntime) -> io::Result<()> {
-    let mut packed = Vec::new(rt.alloc());
-    rt.stdin().read_to_end(&mut packed)?;
-    let mut input = packed.as_slice();
+    let mut input = rt.stdin();
     let mut room = [0u8; 65537];
     let mut block = [0u8; 262144];
     for _ in 0..4096 {

@@ -11,8 +11,12 @@ use input::Input;
 use reading::read_log;
 use std::env::{Env, FillError};
 use std::io;
-use std::io::{Error, ErrorKind};
+use std::io::{Error, ErrorKind, Write};
+use std::str::from_utf8;
 use words::fresh_words;
+
+// Room for an error's text: std gives its words in 256 bytes at most, and a number behind them.
+const ROOM: usize = 512;
 
 // Writes all of a block. A write that fails, as where a signal comes first, or that takes nothing ends it.
 fn write_whole(out: &impl Print, block: &[u8]) -> io::Result<()> {
@@ -51,10 +55,13 @@ fn words_of(text: &str) -> &str {
 }
 
 // Says what failed, and why.
-fn say(rt: &(impl Eprint + AllocGlobal), what: &str, why: Error) -> io::Result<()> {
-    let text = why.to_string(rt.alloc())?;
-    let words = words_of(&text);
-    eprintln!(rt; "doublelister: {what}: {words}")
+fn say(out: &impl Eprint, what: &str, why: Error) -> io::Result<()> {
+    let mut room = [0u8; ROOM];
+    let mut rest = room.as_mut_slice();
+    write!(rest, "{why}")?;
+    let count = ROOM.saturating_sub(rest.len());
+    let words = words_of(from_utf8(&room[..count]).unwrap_or_default());
+    eprintln!(out; "doublelister: {what}: {words}")
 }
 
 fn main(rt: HostRuntime) -> io::Result<()> {

@@ -1,61 +1,87 @@
-// Text written to standard output, piece by piece.
-ghost use Rattle.std.specs.Prelude.{take, ◌≡◌};
+// How the lines say an answer, what was read, what the writer answered, and bytes (docs/CASES.md).
+use std::fmt;
+use std::fmt::{Display, Formatter};
+use working::{Accepted, Answer, Read, Refusal, Speed};
 
-use std::io;
+// A value as a line says it.
+#[derive(Clone, Copy, Drop)]
+pub(crate) struct Said<T>(pub T);
 
-// A word, or the end of a line.
-pub(crate) fn write(out: &impl Print, word: &[u8]) -> io::Result<()> {
-    out.write_all(word)
-}
-
-// A number in decimal digits.
-pub(crate) fn write_digits(out: &impl Print, n: u64) -> io::Result<()> {
-    print!(out; "{n}")
-}
-
-// A blank and a number.
-pub(crate) fn write_number(out: &impl Print, n: u64) -> io::Result<()> {
-    write(out, b" ")?;
-    write_digits(out, n)
-}
-
-// Numbers one behind the other.
-pub(crate) fn write_numbers(out: &impl Print, numbers: &[u64]) -> io::Result<()> {
-    for number in numbers {
-        write_number(out, *number)?;
+impl Display for Said<Speed> {
+    fn fmt<W: fmt::Write>(&self, f: &mut Formatter<W>) -> fmt::Result {
+        match self.0 {
+            Speed::NoSpeed => write!(f, "-"),
+            Speed::Walking => write!(f, "W"),
+            Speed::Kmh(kmh) => write!(f, "{kmh}"),
+            Speed::Booked => write!(f, "B"),
+            Speed::Both {
+                straight,
+                elsewhere,
+            } => write!(f, "{straight}/{elsewhere}"),
+        }
     }
-    Ok(())
 }
 
-// A word and a number behind it.
-pub(crate) fn write_figure(out: &impl Print, word: &[u8], n: u64) -> io::Result<()> {
-    write(out, word)?;
-    write_number(out, n)
+impl Display for Said<Answer> {
+    fn fmt<W: fmt::Write>(&self, f: &mut Formatter<W>) -> fmt::Result {
+        match self.0 {
+            Err(why) => write!(f, "no {}", why.number()),
+            Ok(Accepted { form, forms, speed }) => {
+                write!(f, "ok {form} {forms} {}", Said(speed))
+            }
+        }
+    }
 }
 
-// The first so many bytes, or all where there are fewer.
-pub(crate) fn front(bytes: &[u8], count: usize) -> &[u8]
-    ensures { result.now ≡ take count bytes.now }
-{
-    if bytes.len() < count {
-        bytes
-    } else {
-        &bytes[..count]
+// The last answer of a run, where it had an entry.
+impl Display for Said<Option<Answer>> {
+    fn fmt<W: fmt::Write>(&self, f: &mut Formatter<W>) -> fmt::Result {
+        match self.0 {
+            Some(answer) => write!(f, "{}", Said(answer)),
+            None => write!(f, "none"),
+        }
+    }
+}
+
+impl Display for Said<Read> {
+    fn fmt<W: fmt::Write>(&self, f: &mut Formatter<W>) -> fmt::Result {
+        match self.0 {
+            Read::End => write!(f, "end"),
+            Read::Whole(e, _) => {
+                write!(
+                    f,
+                    "entry {} {} {} {} {}",
+                    e.map, e.kind, e.station, e.time, e.view
+                )?;
+                write!(
+                    f,
+                    " {} {} {} {} {}",
+                    e.class, e.asked, e.granted, e.sender, e.number
+                )
+            }
+            Read::Refused(why, _) => write!(f, "no {}", why.number()),
+        }
+    }
+}
+
+impl Display for Said<Result<usize, Refusal>> {
+    fn fmt<W: fmt::Write>(&self, f: &mut Formatter<W>) -> fmt::Result {
+        match self.0 {
+            Ok(next) => write!(f, "filled {next}"),
+            Err(why) => write!(f, "no {}", why.number()),
+        }
     }
 }
 
 // Bytes in hex, two digits each.
-pub(crate) fn write_bytes(out: &impl Print, bytes: &[u8]) -> io::Result<()> {
-    for byte in bytes {
-        print!(out; "{byte:02x}")?;
-    }
-    Ok(())
-}
+#[derive(Clone, Copy, Drop)]
+pub(crate) struct Hex<'a>(pub &'a [u8]);
 
-// A word, a blank, bytes in hex, and the end of the line.
-pub(crate) fn write_hex(out: &impl Print, word: &[u8], bytes: &[u8]) -> io::Result<()> {
-    write(out, word)?;
-    write(out, b" ")?;
-    write_bytes(out, bytes)?;
-    write(out, b"\n")
+impl Display for Hex<'_> {
+    fn fmt<W: fmt::Write>(&self, f: &mut Formatter<W>) -> fmt::Result {
+        for byte in self.0 {
+            write!(f, "{byte:02x}")?;
+        }
+        Ok(())
+    }
 }

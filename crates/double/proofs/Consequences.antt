@@ -13,21 +13,18 @@ use Rattle.double.specs.Runs.{Run, results}
 use Rattle.double.specs.Sections.{emptied, fresh, fresh_side, line_of, side, side_of}
 use Rattle.double.specs.Steps.{double}
 use Rattle.double.specs.declared.Section.{Section}
+use Rattle.std.specs.Prelude.{Err, None, Option, Some}
 use Rattle.working.proofs.examples.Consequences.{handed}
 use Rattle.working.proofs.examples.Literals.{begin, counts, plain, receive, resume}
 use Rattle.working.proofs.laws.Lists.{Todo}
+use Rattle.working.specs.Answers.{Answer, accept}
 use Rattle.working.specs.Runs.{StepForm, by_value, in_place}
 use Rattle.working.specs.Sections.{count_of, number_at, other_at, total}
 use Rattle.working.specs.Turns.{accepted_in, answers_in, entries_in, section_after, turns_of}
-use Rattle.working.specs.declared.Answer.TheVariants.{Accepted, Refused}
-use Rattle.working.specs.declared.Answer.{Answer}
-use Rattle.working.specs.declared.Interval.TheVariants.{Since}
 use Rattle.working.specs.declared.Refusal.TheVariants.{AlreadyInForce, BeforeClock, EndsInside, IntervalRunning, NotInForce, NotNearest, UnknownKind, VehiclePresent}
 use Rattle.working.specs.declared.Speed.TheVariants.{NoSpeed}
 use Rattle.working.specs.declared.Station.TheVariants.{A, B}
 use Rattle.working.specs.declared.Station.{Station}
-use Rattle.working.specs.declared.Whose.TheVariants.{NoStation, Of}
-use Rattle.working.specs.declared.Whose.{Whose}
 use lib.Dec.{lit≤}
 use lib.ListN.{length}
 use mathlib.Core.Bool.{false, true}
@@ -39,9 +36,9 @@ use mathlib.Core.Path.{ap₂, refl, sym, ◌∙◌, ◌≡◌}
 -- no bytes, BEGIN, a TRAIN of A: whatever the forms, and whatever answers a run of these bytes is said to have
 each_fixed : {f g h : StepForm} {a b c : Answer} {s : Section}
     (run : Run fresh (handed f [] a ∷ handed g begin b ∷ handed h (train 1 0 10) c ∷ []) s)
-    → results run ≡ record { answer = Refused EndsInside; section = emptied false (counts 0 0 1) }
+    → results run ≡ record { answer = Err EndsInside; section = emptied false (counts 0 0 1) }
     ∷ record { answer = plain; section = emptied true (counts 0 0 1) }
-    ∷ record { answer = order 1; section = record { force = true; refused = counts 0 0 1; a = side 10 1 (Since 10) (1 ∷ []); b = fresh_side } }
+    ∷ record { answer = order 1; section = record { force = true; refused = counts 0 0 1; a = side 10 1 (Some 10) (1 ∷ []); b = fresh_side } }
     ∷ []
 unfolding step_computes
 each_fixed run = (in_order run).each
@@ -50,7 +47,7 @@ each_fixed run = (in_order run).each
 
 -- "receipts .. name": the number that the entry names, and for a departure of the station the number in its answer; of steps that no run has
 named : (receipts A [] (handed by_value (receive 1 0 2 7) plain ∷ handed in_place (receive 1 0 1 8) plain ∷ handed by_value (receive 2 0 1 9) plain ∷ []) ≡ 7 ∷ 8 ∷ [])
-    × (departures B [] (handed by_value (train 2 0 0) (Accepted 7 0 NoSpeed) ∷ handed in_place (train 1 0 0) (Accepted 8 0 NoSpeed) ∷ []) ≡ 7 ∷ [])
+    × (departures B [] (handed by_value (train 2 0 0) (accept 7 0 NoSpeed) ∷ handed in_place (train 1 0 0) (accept 8 0 NoSpeed) ∷ []) ≡ 7 ∷ [])
 unfolding step_computes
 named = (refl, refl)
 
@@ -90,8 +87,8 @@ between x =
     ∷ []
 
 between_answers : (x : Station) → answers fresh (between x) ≡
-    plain ∷ order 1 ∷ order 1 ∷ Refused IntervalRunning ∷ order 2 ∷ Refused NotNearest ∷ Refused NotNearest ∷ plain ∷ Refused NotNearest ∷ Refused EndsInside
-    ∷ Refused AlreadyInForce ∷ order 3 ∷ Refused BeforeClock ∷ plain ∷ []
+    plain ∷ order 1 ∷ order 1 ∷ Err IntervalRunning ∷ order 2 ∷ Err NotNearest ∷ Err NotNearest ∷ plain ∷ Err NotNearest ∷ Err EndsInside
+    ∷ Err AlreadyInForce ∷ order 3 ∷ Err BeforeClock ∷ plain ∷ []
 unfolding step_computes
 between_answers A = refl
 between_answers B = refl
@@ -126,7 +123,7 @@ anew x =
     ∷ []
 
 anew_answers : (x : Station) → answers fresh (anew x) ≡
-    plain ∷ order 1 ∷ order 2 ∷ plain ∷ Refused VehiclePresent ∷ plain ∷ plain ∷ Refused UnknownKind ∷ plain ∷ order 1 ∷ Refused NotNearest ∷ order 1 ∷ plain ∷ order 2 ∷ plain ∷ []
+    plain ∷ order 1 ∷ order 2 ∷ plain ∷ Err VehiclePresent ∷ plain ∷ plain ∷ Err UnknownKind ∷ plain ∷ order 1 ∷ Err NotNearest ∷ order 1 ∷ plain ∷ order 2 ∷ plain ∷ []
 unfolding step_computes
 anew_answers A = refl
 anew_answers B = refl
@@ -150,7 +147,7 @@ thirteen_in_line = lined (twelve ++ receive 2 100 1 1 ∷ train 1 1 104 ∷ []) 
 -- ---- the counts of a log
 
 -- of every log of at most 4,294,967,295 bytes: its counts, and the turns refused that are theirs; entries, and those accepted
-counted_as : (log : List ℕ) (whose : Whose) {c r : ℕ} → length log ≤ 4294967295 → count_of (section_after fresh (turns_of double fresh log)).refused whose ≡ c
+counted_as : (log : List ℕ) (whose : Option Station) {c r : ℕ} → length log ≤ 4294967295 → count_of (section_after fresh (turns_of double fresh log)).refused whose ≡ c
     → refused_in whose (turns_of double fresh log) ≡ r → c ≡ r
 counted_as log whose short c r = sym c ∙ (logs_counted log short).each whose ∙ r
 
@@ -163,19 +160,19 @@ abbrev pub refusals : List ℕ
 refusals = train 1 0 0 ++ begin ++ begin ++ receive 2 0 1 1 ++ train 2 0 10 ++ train 2 0 20 ++ resume ++ 0x07 ∷ 5 ∷ 2 ∷ []
 
 refusals_answers : answers_in (turns_of double fresh refusals) ≡
-    Refused NotInForce ∷ plain ∷ Refused AlreadyInForce ∷ Refused NotNearest ∷ order 1 ∷ Refused IntervalRunning ∷ Refused VehiclePresent ∷ Refused EndsInside ∷ []
+    Err NotInForce ∷ plain ∷ Err AlreadyInForce ∷ Err NotNearest ∷ order 1 ∷ Err IntervalRunning ∷ Err VehiclePresent ∷ Err EndsInside ∷ []
 unfolding turns_compute
 refusals_answers = refl
 
-refusals_counted : (refused_in (Of A) (turns_of double fresh refusals) ≡ 1) × (refused_in (Of B) (turns_of double fresh refusals) ≡ 2)
-    × (refused_in NoStation (turns_of double fresh refusals) ≡ 3) × ((section_after fresh (turns_of double fresh refusals)).refused ≡ counts 1 2 3)
+refusals_counted : (refused_in (Some A) (turns_of double fresh refusals) ≡ 1) × (refused_in (Some B) (turns_of double fresh refusals) ≡ 2)
+    × (refused_in None (turns_of double fresh refusals) ≡ 3) × ((section_after fresh (turns_of double fresh refusals)).refused ≡ counts 1 2 3)
 unfolding turns_compute
 refusals_counted = (refl, refl, refl, refl)
 
 -- and by the theorem, which gives the three from the section's counts, and eight entries from two accepted
-refusals_told : (1 ≡ refused_in (Of A) (turns_of double fresh refusals)) × (2 ≡ refused_in (Of B) (turns_of double fresh refusals))
-    × (3 ≡ refused_in NoStation (turns_of double fresh refusals)) × (entries_in (turns_of double fresh refusals) ≡ 2 + 6)
+refusals_told : (1 ≡ refused_in (Some A) (turns_of double fresh refusals)) × (2 ≡ refused_in (Some B) (turns_of double fresh refusals))
+    × (3 ≡ refused_in None (turns_of double fresh refusals)) × (entries_in (turns_of double fresh refusals) ≡ 2 + 6)
 unfolding turns_compute
 refusals_told =
     let short : length refusals ≤ 4294967295 = lit≤ tt in
-    (counted_as refusals (Of A) short refl refl, counted_as refusals (Of B) short refl refl, counted_as refusals NoStation short refl refl, summed refusals short refl refl refl)
+    (counted_as refusals (Some A) short refl refl, counted_as refusals (Some B) short refl refl, counted_as refusals None short refl refl, summed refusals short refl refl refl)

@@ -10,7 +10,7 @@ use Rattle.double.specs.Steps.{Begin, Decoded, Depart, Event, Receive, Resume, d
 use Rattle.double.specs.WellMade.{well_made}
 use Rattle.double.specs.declared.Section.{Section}
 use Rattle.double.specs.declared.Side.{Side}
-use Rattle.double.specs.declared.Stepped.{Stepped}
+use Rattle.std.specs.Prelude.{None, Option, Some}
 use Rattle.working.proofs.laws.Counts.{counted_for, counted_from}
 use Rattle.working.proofs.laws.Scans.{scanned}
 use Rattle.working.proofs.laws.Turns.{entries_by}
@@ -21,9 +21,8 @@ use Rattle.working.specs.Turns.{section_after, turns_of}
 use Rattle.working.specs.declared.Read.{Read}
 use Rattle.working.specs.declared.Station.TheVariants.{A, B}
 use Rattle.working.specs.declared.Station.{Station}
+use Rattle.working.specs.declared.Stepped.{Stepped}
 use Rattle.working.specs.declared.Table.TheVariants.{DoubleLine}
-use Rattle.working.specs.declared.Whose.TheVariants.{NoStation, Of}
-use Rattle.working.specs.declared.Whose.{Whose}
 use lib.ListN.{drop}
 use mathlib.Core.Bool.{true}
 use mathlib.Core.List.{List}
@@ -37,7 +36,7 @@ same_counts s A d = refl
 same_counts s B d = refl
 
 -- what is shown of a step that makes r of s
-abbrev CountedIn : Section → Decoded → Stepped → Type 0
+abbrev CountedIn : Section → Decoded → Stepped Section → Type 0
 CountedIn s e r = r.section.refused ≡ counted_for r.answer (whose_is e) s.refused
 
 effect_counted : (s : Section) (e : Event) → CountedIn s (Says e) (effect_of s e)
@@ -59,8 +58,8 @@ counted_at s log at h = rw (step_there s log at, h) (counted s (decoded_as (read
 pub logs_counted : LogsCounted
 logs_counted log short =
     let turns = turns_of double fresh log in
-    let whose_read : Read → Whose = λ read. whose_is (decoded_as read) in
-    let each : (whose : Whose) → count_of (section_after fresh turns).refused whose ≡ refused_in whose turns =
+    let whose_read : Read → Option Station = λ read. whose_is (decoded_as read) in
+    let each : (whose : Option Station) → count_of (section_after fresh turns).refused whose ≡ refused_in whose turns =
     λ whose. counted_from double whose_read (λ (s : Section). s.refused) (λ (s : Section). well_made s ≡ true) (λ s log at g. made_step s (drop at log) g) counted_at whose log
     fresh fresh-made refl short in
-    record { each = each; sum = omega (arith, entries_by whose_read turns, each (Of A), each (Of B), each NoStation) }
+    record { each = each; sum = omega (arith, entries_by whose_read turns, each (Some A), each (Some B), each None) }

@@ -10,16 +10,15 @@ use Rattle.double.specs.Steps.{Decoded, decode, step_of}
 use Rattle.double.specs.WellMade.{well_made}
 use Rattle.double.specs.declared.Section.{Section}
 use Rattle.double.specs.declared.Side.{Side}
+use Rattle.std.specs.Prelude.{Err, None, Some}
 use Rattle.working.proofs.examples.EntryTable.{below}
 use Rattle.working.proofs.examples.Literals.{begin, plain, receive, resume}
 use Rattle.working.proofs.laws.Lists.{Todo}
+use Rattle.working.specs.Answers.{Answer, accept}
 use Rattle.working.specs.Events.{Bad, Says}
 use Rattle.working.specs.Refusals.{number_of}
 use Rattle.working.specs.Runs.{Done, by_value}
 use Rattle.working.specs.Sections.{none_refused, pad_with}
-use Rattle.working.specs.declared.Answer.TheVariants.{Accepted, Refused}
-use Rattle.working.specs.declared.Answer.{Answer}
-use Rattle.working.specs.declared.Interval.TheVariants.{Since, Stopped}
 use Rattle.working.specs.declared.Refusal.TheVariants.{AlreadyInForce, BeforeClock, EndsInside, FormsUsed, IllMade, IntervalRunning}
 use Rattle.working.specs.declared.Refusal.TheVariants.{NotInForce, NotNearest, OutOfRange, TwelveSent, UnknownKind, VehiclePresent, WrongMap}
 use Rattle.working.specs.declared.Speed.TheVariants.{Both}
@@ -67,7 +66,7 @@ answers s l = map (λ (d : Done). d.answer) (done s (todo l))
 
 -- a departure's, on T/C 602 alone and at both speeds
 abbrev pub order : ℕ → Answer
-order form = Accepted form 256 (Both 25 10)
+order form = accept form 256 (Both 25 10)
 
 -- three trains from A, one from B, each received
 abbrev log : List (List ℕ)
@@ -100,9 +99,9 @@ log =
     ∷ []
 
 log_answers : answers fresh log ≡
-    Refused NotInForce ∷ Refused NotInForce ∷ plain ∷ Refused AlreadyInForce ∷ order 1 ∷ Refused VehiclePresent ∷ Refused IntervalRunning ∷ order 2
-    ∷ Refused NotNearest ∷ order 1 ∷ Refused NotNearest ∷ Refused NotNearest ∷ plain ∷ Refused BeforeClock ∷ plain ∷ Refused VehiclePresent ∷ plain
-    ∷ Refused IntervalRunning ∷ order 3 ∷ plain ∷ plain ∷ Refused EndsInside ∷ Refused UnknownKind ∷ Refused WrongMap ∷ Refused OutOfRange ∷ []
+    Err NotInForce ∷ Err NotInForce ∷ plain ∷ Err AlreadyInForce ∷ order 1 ∷ Err VehiclePresent ∷ Err IntervalRunning ∷ order 2
+    ∷ Err NotNearest ∷ order 1 ∷ Err NotNearest ∷ Err NotNearest ∷ plain ∷ Err BeforeClock ∷ plain ∷ Err VehiclePresent ∷ plain
+    ∷ Err IntervalRunning ∷ order 3 ∷ plain ∷ plain ∷ Err EndsInside ∷ Err UnknownKind ∷ Err WrongMap ∷ Err OutOfRange ∷ []
 unfolding step_computes
 log_answers = refl
 
@@ -124,7 +123,7 @@ twelve =
     ∷ train 1 1 14 ∷ train 1 1 44 ∷ train 1 1 74 ∷ []
 
 -- there is room for twelve on B's line all the same
-own_room : answers (after fresh (todo twelve)) (train 1 1 104 ∷ train 2 0 0 ∷ []) ≡ Refused TwelveSent ∷ order 1 ∷ []
+own_room : answers (after fresh (todo twelve)) (train 1 1 104 ∷ train 2 0 0 ∷ []) ≡ Err TwelveSent ∷ order 1 ∷ []
 unfolding step_computes
 own_room = refl
 
@@ -134,7 +133,7 @@ unfolding step_computes
 thirteenth = refl
 
 -- the same two changed about: that neighbours of two stations may change places is not claimed of a double line
-changed_about_lem : answers (after fresh (todo twelve)) (train 1 1 104 ∷ receive 2 100 1 1 ∷ []) ≡ Refused TwelveSent ∷ plain ∷ []
+changed_about_lem : answers (after fresh (todo twelve)) (train 1 1 104 ∷ receive 2 100 1 1 ∷ []) ≡ Err TwelveSent ∷ plain ∷ []
 unfolding step_computes
 changed_about_lem = refl
 
@@ -153,7 +152,7 @@ whole-told = (refl, refl)
 -- ---- 19 at the clock's end: 15 minutes after a departure at 65,520; and 30 minutes after one at 65,505 it has run
 
 clock_end :
-    (answers fresh (begin ∷ train 1 255 240 ∷ train 1 255 255 ∷ []) ≡ plain ∷ order 1 ∷ Refused IntervalRunning ∷ [])
+    (answers fresh (begin ∷ train 1 255 240 ∷ train 1 255 255 ∷ []) ≡ plain ∷ order 1 ∷ Err IntervalRunning ∷ [])
     × (answers fresh (begin ∷ train 1 255 225 ∷ train 1 255 255 ∷ []) ≡ plain ∷ order 1 ∷ order 2 ∷ [])
 unfolding step_computes
 clock_end = (refl, refl)
@@ -165,15 +164,15 @@ abbrev section_with : Side → Section
 section_with d = record { force = true; refused = none_refused; a = d; b = fresh_side }
 
 -- 18: A has used form 9,998
-forms_used : (well_made (section_with (side 0 9998 Stopped [])) ≡ true)
-    × (answers (section_with (side 0 9998 Stopped [])) (train 1 0 0 ∷ train 1 0 30 ∷ []) ≡ order 9999 ∷ Refused FormsUsed ∷ [])
+forms_used : (well_made (section_with (side 0 9998 None [])) ≡ true)
+    × (answers (section_with (side 0 9998 None [])) (train 1 0 0 ∷ train 1 0 30 ∷ []) ≡ order 9999 ∷ Err FormsUsed ∷ [])
 unfolding step_computes
 forms_used = (refl, refl)
 
 -- a gap in a line's numbers: they rise, and that is all that is asked of them; the first of them is received
-gap : (well_made (section_with (side 0 7 Stopped (2 ∷ 5 ∷ []))) ≡ true)
-    × (answers (section_with (side 0 7 Stopped (2 ∷ 5 ∷ []))) (receive 2 0 1 3 ∷ receive 2 0 1 2 ∷ receive 2 0 1 3 ∷ receive 2 0 1 5 ∷ train 1 0 0 ∷ [])
-    ≡ Refused NotNearest ∷ plain ∷ Refused NotNearest ∷ plain ∷ order 8 ∷ [])
+gap : (well_made (section_with (side 0 7 None (2 ∷ 5 ∷ []))) ≡ true)
+    × (answers (section_with (side 0 7 None (2 ∷ 5 ∷ []))) (receive 2 0 1 3 ∷ receive 2 0 1 2 ∷ receive 2 0 1 3 ∷ receive 2 0 1 5 ∷ train 1 0 0 ∷ [])
+    ≡ Err NotNearest ∷ plain ∷ Err NotNearest ∷ plain ∷ order 8 ∷ [])
 unfolding step_computes
 gap = (refl, refl)
 
@@ -187,17 +186,17 @@ counts_stop = refl
 
 abbrev ill_made : List Section
 ill_made =
-    section_with (side 0 10000 Stopped [])  -- forms end at 9,999
-    ∷ section_with (side 0 20 Stopped (1 ∷ 2 ∷ 3 ∷ 4 ∷ 5 ∷ 6 ∷ 7 ∷ 8 ∷ 9 ∷ 10 ∷ 11 ∷ 12 ∷ 13 ∷ []))  -- thirteen on the line
-    ∷ section_with (side 0 2 Stopped (0 ∷ []))  -- form 0
-    ∷ section_with (side 0 2 Stopped (1 ∷ 3 ∷ []))  -- a form that was not used
-    ∷ section_with (side 0 2 Stopped (2 ∷ 1 ∷ []))  -- falling
-    ∷ section_with (side 0 2 Stopped (2 ∷ 2 ∷ []))  -- twice the same
-    ∷ section_with (record { clock = 0; last = 2; interval = Stopped; numbers = pad_with 0 12 (1 ∷ 2 ∷ []); len = 1 })  -- an unused place
-    ∷ section_with (side 4 2 (Since 5) [])  -- an interval later than the clock
-    ∷ record { force = false; refused = none_refused; a = fresh_side; b = side 1 0 Stopped [] }  -- not in force, and not as fresh
+    section_with (side 0 10000 None [])  -- forms end at 9,999
+    ∷ section_with (side 0 20 None (1 ∷ 2 ∷ 3 ∷ 4 ∷ 5 ∷ 6 ∷ 7 ∷ 8 ∷ 9 ∷ 10 ∷ 11 ∷ 12 ∷ 13 ∷ []))  -- thirteen on the line
+    ∷ section_with (side 0 2 None (0 ∷ []))  -- form 0
+    ∷ section_with (side 0 2 None (1 ∷ 3 ∷ []))  -- a form that was not used
+    ∷ section_with (side 0 2 None (2 ∷ 1 ∷ []))  -- falling
+    ∷ section_with (side 0 2 None (2 ∷ 2 ∷ []))  -- twice the same
+    ∷ section_with (record { clock = 0; last = 2; interval = None; numbers = pad_with 0 12 (1 ∷ 2 ∷ []); len = 1 })  -- an unused place
+    ∷ section_with (side 4 2 (Some 5) [])  -- an interval later than the clock
+    ∷ record { force = false; refused = none_refused; a = fresh_side; b = side 1 0 None [] }  -- not in force, and not as fresh
     ∷ []
 
-ill-made : map (λ s. step_of s begin) ill_made ≡ map (λ s. record { answer = Refused IllMade; section = s }) ill_made
+ill-made : map (λ s. step_of s begin) ill_made ≡ map (λ s. record { answer = Err IllMade; section = s }) ill_made
 unfolding step_computes
 ill-made = refl

@@ -6,12 +6,12 @@ use Rattle.double.specs.Sections.{line_of, side}
 use Rattle.double.specs.Steps.{is_first}
 use Rattle.double.specs.WellMade.{rising, side_made, side_tests}
 use Rattle.double.specs.declared.Side.{Side}
+use Rattle.std.specs.Prelude.{Option}
 use Rattle.working.proofs.invariant.Made.{front_padded}
 use Rattle.working.proofs.laws.Tests.{both, each_holds, every_holds}
 use Rattle.working.specs.Entries.{every}
 use Rattle.working.specs.Sections.{pad_with}
 use Rattle.working.specs.WellMade.{not_later, zero_tests}
-use Rattle.working.specs.declared.Interval.{Interval}
 use borrow.Author.Tests.{eqb-true, le-leb, leb-true, lt-ltb, ltb-true}
 use lib.Dec.{leb, ltb}
 use lib.ListN.{drop, length, take}
@@ -92,7 +92,7 @@ made_of d h =
 pub side-made : (d : Side) → Made d → side_made d ≡ true
 side-made d m = every_holds (side_tests d) (le-leb d.last 9999 m.last, (le-leb d.len 12 m.len, (m.rises, (m.blank, (m.minute, tt)))))
 
-module _ (clock last : ℕ) (i : Interval) (l : List ℕ) (fits : length l ≤ 12) where
+module _ (clock last : ℕ) (i : Option ℕ) (l : List ℕ) (fits : length l ≤ 12) where
   pub line_there : line_of (side clock last i l) ≡ l
   line_there = front_padded 0 12 l fits
 

@@ -5,13 +5,13 @@ use Prim.Native.Nat.{ℕ}
 use Rattle.double.specs.Runs.{Run, StepBy, results, results_of}
 use Rattle.double.specs.Steps.{decode, double, step_of}
 use Rattle.double.specs.declared.Section.{Section}
-use Rattle.double.specs.declared.Stepped.{Stepped}
 use Rattle.working.proofs.laws.Lists.{Todo, after_by, done_by, each_by, runs_by}
 use Rattle.working.proofs.laws.Turns.{turns_by}
 use Rattle.working.proofs.theorems.OwnBytes.{own_reads}
+use Rattle.working.specs.Answers.{Answer}
 use Rattle.working.specs.Runs.{Done, StepForm, by_value, in_place, next, step_for, stop}
 use Rattle.working.specs.Turns.{own_bytes, section_after, turn_in, turns_of}
-use Rattle.working.specs.declared.Answer.{Answer}
+use Rattle.working.specs.declared.Stepped.{Stepped}
 use lib.ListN.{drop, length}
 use mathlib.Core.List.{List, map}
 use mathlib.Core.Path.{refl, ◌≡◌}
@@ -26,7 +26,7 @@ does by_value s bytes = refl
 does in_place s bytes = (refl, refl)
 
 pub each_result : {s t : Section} {l : List Done} (run : Run s l t) → results run ≡ results_of s l
-each_result run = each_by StepBy step_of (λ answer s. record { answer = answer; section = s }) (λ (r : Stepped). r.section) (λ answer s. refl) step_did run
+each_result run = each_by StepBy step_of (λ answer s. record { answer = answer; section = s }) (λ (r : Stepped Section). r.section) (λ answer s. refl) step_did run
 
 -- ---- every list of bytes and forms has a run
 

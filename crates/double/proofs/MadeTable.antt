@@ -8,10 +8,10 @@ use Rattle.double.specs.Sections.{emptied, fresh_side, side}
 use Rattle.double.specs.Steps.{step_of}
 use Rattle.double.specs.declared.Section.{Section}
 use Rattle.double.specs.declared.Side.{Side}
+use Rattle.std.specs.Prelude.{None, Some}
 use Rattle.working.proofs.examples.Literals.{counts}
 use Rattle.working.proofs.examples.MadeTable.{number_in}
 use Rattle.working.specs.Sections.{none_refused}
-use Rattle.working.specs.declared.Interval.TheVariants.{Since, Stopped}
 use Rattle.working.specs.declared.Station.TheVariants.{A, B}
 use Rattle.working.specs.declared.Station.{Station}
 use lib.Dec.{eqb}
@@ -35,18 +35,18 @@ idle x d = with_one false x d
 
 -- a side at its 40th minute, last form number 20, the interval running since that minute, with these places and so many of them used
 abbrev placed : List ℕ → ℕ → Side
-placed places used = record { clock = 40; last = 20; interval = Since 40; numbers = places; len = used }
+placed places used = record { clock = 40; last = 20; interval = Some 40; numbers = places; len = used }
 
 -- the same with a line
 abbrev lined : List ℕ → Side
-lined l = side 40 20 (Since 40) l
+lined l = side 40 20 (Some 40) l
 
 -- ---- ill made, the same for A and for B
 
 abbrev ill_at : Station → List Section
 ill_at x =
     -- "last form number, 0 to 9,999"
-    in_force x (side 40 10000 (Since 40) [])
+    in_force x (side 40 10000 (Some 40) [])
     -- twelve on a line
     ∷ in_force x (lined (1 ∷ 2 ∷ 3 ∷ 4 ∷ 5 ∷ 6 ∷ 7 ∷ 8 ∷ 9 ∷ 10 ∷ 11 ∷ 12 ∷ 13 ∷ []))
     -- "form numbers are 1 to the desk's last"
@@ -64,14 +64,14 @@ ill_at x =
     ∷ in_force x (placed (1 ∷ 2 ∷ 0 ∷ 0 ∷ 0 ∷ 0 ∷ 0 ∷ 0 ∷ 0 ∷ 0 ∷ 0 ∷ 0 ∷ []) 1)
     ∷ in_force x (placed (1 ∷ 2 ∷ 3 ∷ 4 ∷ 5 ∷ 6 ∷ 7 ∷ 8 ∷ 9 ∷ 10 ∷ 11 ∷ 12 ∷ []) 11)
     -- "a running interval is not later than the clock"
-    ∷ in_force x (side 40 20 (Since 41) [])
+    ∷ in_force x (side 40 20 (Some 41) [])
     -- "not in force, all but the count is as fresh": clock, last, interval, and a number on the line, for which last is not 0 either
-    ∷ idle x (side 1 0 Stopped [])
-    ∷ idle x (side 0 1 Stopped [])
-    ∷ idle x (side 0 0 (Since 0) [])
-    ∷ idle x (side 0 1 Stopped (1 ∷ []))
-    ∷ idle x (record { clock = 0; last = 0; interval = Stopped; numbers = 0 ∷ 0 ∷ 0 ∷ 0 ∷ 0 ∷ 0 ∷ 0 ∷ 0 ∷ 0 ∷ 0 ∷ 0 ∷ 0 ∷ []; len = 1 })
-    ∷ idle x (record { clock = 0; last = 0; interval = Stopped; numbers = 1 ∷ 0 ∷ 0 ∷ 0 ∷ 0 ∷ 0 ∷ 0 ∷ 0 ∷ 0 ∷ 0 ∷ 0 ∷ 0 ∷ []; len = 0 })
+    ∷ idle x (side 1 0 None [])
+    ∷ idle x (side 0 1 None [])
+    ∷ idle x (side 0 0 (Some 0) [])
+    ∷ idle x (side 0 1 None (1 ∷ []))
+    ∷ idle x (record { clock = 0; last = 0; interval = None; numbers = 0 ∷ 0 ∷ 0 ∷ 0 ∷ 0 ∷ 0 ∷ 0 ∷ 0 ∷ 0 ∷ 0 ∷ 0 ∷ 0 ∷ []; len = 1 })
+    ∷ idle x (record { clock = 0; last = 0; interval = None; numbers = 1 ∷ 0 ∷ 0 ∷ 0 ∷ 0 ∷ 0 ∷ 0 ∷ 0 ∷ 0 ∷ 0 ∷ 0 ∷ 0 ∷ []; len = 0 })
     ∷ []
 
 -- ---- well made, at every limit
@@ -79,7 +79,7 @@ ill_at x =
 abbrev at_limits_of : Station → List Section
 at_limits_of x =
     -- every figure at its largest, the interval at the clock, and twelve on the line
-    in_force x (side 65535 9999 (Since 65535) (9988 ∷ 9989 ∷ 9990 ∷ 9991 ∷ 9992 ∷ 9993 ∷ 9994 ∷ 9995 ∷ 9996 ∷ 9997 ∷ 9998 ∷ 9999 ∷ []))
+    in_force x (side 65535 9999 (Some 65535) (9988 ∷ 9989 ∷ 9990 ∷ 9991 ∷ 9992 ∷ 9993 ∷ 9994 ∷ 9995 ∷ 9996 ∷ 9997 ∷ 9998 ∷ 9999 ∷ []))
     ∷ in_force x (lined [])
     -- form numbers from 1 to the last, rising, with gaps or without
     ∷ in_force x (lined (1 ∷ []))
@@ -87,9 +87,9 @@ at_limits_of x =
     ∷ in_force x (lined (1 ∷ 2 ∷ 20 ∷ []))
     ∷ in_force x (lined (1 ∷ 2 ∷ 3 ∷ 4 ∷ 5 ∷ 6 ∷ 7 ∷ 8 ∷ 9 ∷ 10 ∷ 11 ∷ 12 ∷ []))
     -- the interval
-    ∷ in_force x (side 40 20 (Since 0) [])
-    ∷ in_force x (side 40 20 Stopped [])
-    ∷ in_force x (side 0 0 (Since 0) [])
+    ∷ in_force x (side 40 20 (Some 0) [])
+    ∷ in_force x (side 40 20 None [])
+    ∷ in_force x (side 0 0 (Some 0) [])
     ∷ []
 
 abbrev at_limits : List Section

@@ -9,16 +9,15 @@ use Rattle.double.specs.Sections.{fresh}
 use Rattle.double.specs.Steps.{Begin, Decoded, Depart, Event, Receive, Resume, decode, effect_of, event_of, on_decoded, settled, step_of, tests_of}
 use Rattle.double.specs.WellMade.{well_made}
 use Rattle.double.specs.declared.Section.{Section}
-use Rattle.double.specs.declared.Stepped.{Stepped}
+use Rattle.std.specs.Prelude.{Err, Ok}
 use Rattle.working.proofs.laws.Lists.{split_run}
 use Rattle.working.proofs.laws.Tests.{IsNot, first_is_not, none_is}
 use Rattle.working.proofs.theorems.Corollaries.{Fine, FineSaid, fine_said}
 use Rattle.working.specs.Events.{Bad, Says}
-use Rattle.working.specs.Refusals.{first_of}
+use Rattle.working.specs.Refusals.{Verdict, first_of}
 use Rattle.working.specs.Runs.{Done, next}
+use Rattle.working.specs.declared.Stepped.{Stepped}
 use Rattle.working.specs.declared.Table.TheVariants.{DoubleLine}
-use Rattle.working.specs.declared.Verdict.TheVariants.{Allowed, Refused}
-use Rattle.working.specs.declared.Verdict.{Verdict}
 use mathlib.Core.Bool.{true}
 use mathlib.Core.List.{List, ◌++◌, ◌∷◌}
 use mathlib.Core.Path.{ap, refl, ◌≡◌}
@@ -27,8 +26,8 @@ fine_says : (s : Section) (e : Event) → none_is 5 (tests_of s e) ≡ true → 
 fine_says s e none fine = by (first_of (tests_of s e)) (first_is_not 5 (tests_of s e) none)
   where
     by : (v : Verdict) → IsNot 5 v → Fine (settled s (Says e) v (effect_of s e)).answer
-    by (Refused why) h = h
-    by Allowed h = fine
+    by (Err why) h = h
+    by (Ok _) h = fine
 
 fine_on : (s : Section) (e : Decoded) → FineSaid e → Fine (on_decoded s e).answer
 fine_on s (Bad why) h = h
@@ -46,4 +45,4 @@ never_five {s = s} run before d after is = let (t, first, later) = split_run Ste
   where
     by : (t : Section) → Run fresh before t → Run t (d ∷ after) s → Fine d.answer
     by t first (next {t = u} did later) =
-        rw (ap (λ (r : Stepped). r.answer) (step_did d.form t d.bytes d.answer u did)) (fine_step t d.bytes (made-run fresh-made first))
+        rw (ap (λ (r : Stepped Section). r.answer) (step_did d.form t d.bytes d.answer u did)) (fine_step t d.bytes (made-run fresh-made first))

@@ -11,20 +11,18 @@ use Rattle.double.specs.Steps.{cleared, decode, decoded_as, departed, effect_of,
 use Rattle.double.specs.WellMade.{made_tests, well_made}
 use Rattle.double.specs.declared.Section.{Section}
 use Rattle.double.specs.declared.Side.{Side}
-use Rattle.double.specs.declared.Stepped.{Stepped}
+use Rattle.std.specs.Prelude.{Err, None, Option, Some}
 use Rattle.working.proofs.laws.Reasons.{LastPasses, last_passes}
 use Rattle.working.proofs.laws.Scans.{scanned}
 use Rattle.working.proofs.laws.Tests.{NoneHolds, both, each_holds, every_holds, no_test}
 use Rattle.working.specs.Events.{Bad, Says}
 use Rattle.working.specs.Sections.{other_at, pad_with}
 use Rattle.working.specs.WellMade.{not_later}
-use Rattle.working.specs.declared.Answer.TheVariants as answer
-use Rattle.working.specs.declared.Interval.TheVariants.{Since, Stopped}
-use Rattle.working.specs.declared.Interval.{Interval}
 use Rattle.working.specs.declared.Read.{Read}
 use Rattle.working.specs.declared.Refusal.{Refusal}
 use Rattle.working.specs.declared.Station.TheVariants.{A, B}
 use Rattle.working.specs.declared.Station.{Station}
+use Rattle.working.specs.declared.Stepped.{Stepped}
 use borrow.Author.Tests.{le-leb, leb-true, ltb-false, not-false}
 use lib.ListN.{drop, length, length-append, length-drop}
 use mathlib.Core.Bool.{false, true, ◌&&◌}
@@ -48,9 +46,9 @@ departs d time m p =
     let fits : length (line_of d ++ next) ≤ 12 = simp length-append (omega (arith, line_length d, p.room)) in
     record {
       made =
-          made-side time (d.last + 1) (Since time) (line_of d ++ next) fits (omega (arith, p.unused)) (rising_next 0 d.last (line_of d) (omega arith) m.rises)
+          made-side time (d.last + 1) (Some time) (line_of d ++ next) fits (omega (arith, p.unused)) (rising_next 0 d.last (line_of d) (omega arith) m.rises)
           (le-leb time time (omega arith));
-      order = λ sent got h. rw (line_there time (d.last + 1) (Since time) (line_of d ++ next) fits) (ap (◌++ next) h ∙ append_assoc got (line_of d) next);
+      order = λ sent got h. rw (line_there time (d.last + 1) (Some time) (line_of d ++ next) fits) (ap (◌++ next) h ∙ append_assoc got (line_of d) next);
     }
 
 -- the side of the station that receives, and that of the train it receives
@@ -58,9 +56,9 @@ receives : (d : Side) (time : ℕ) → Made d → d.clock ≤ time → Passes d 
 receives d time m h =
     record { made = record { last = m.last; len = m.len; rises = m.rises; blank = m.blank; minute = later d.interval m.minute }; order = λ sent got p. p }
   where
-    later : (i : Interval) → not_later i d.clock ≡ true → not_later i time ≡ true
-    later Stopped p = refl
-    later (Since minute) p = le-leb minute time (omega (arith, leb-true minute d.clock p))
+    later : (i : Option ℕ) → not_later i d.clock ≡ true → not_later i time ≡ true
+    later None p = refl
+    later (Some minute) p = le-leb minute time (omega (arith, leb-true minute d.clock p))
 
 clears : (d : Side) (form : ℕ) → Made d → is_first form (line_of d) ≡ true → Passes d (cleared d) (λ l. l) (λ l. l ++ form ∷ [])
 clears d form m first =
@@ -75,7 +73,7 @@ clears d form m first =
 -- ---- the section
 
 -- what the entry e, that makes r of s, keeps
-pub record Keeps (s : Section) (e : Decoded) (r : Stepped) : Type 0 where
+pub record Keeps (s : Section) (e : Decoded) (r : Stepped Section) : Type 0 where
   pub made : well_made r.section ≡ true
   pub order : (x : Station) (sent got : List ℕ) → sent ≡ got ++ line_of (side_of s x)
       → departed_by x e r.answer sent ≡ received_by (other_at x) e r.answer got ++ line_of (side_of r.section x)
@@ -90,7 +88,7 @@ force_with s A d = refl
 force_with s B d = refl
 
 -- by what becomes of each side, where working stays in force
-keeps : (s : Section) (e : Decoded) (r : Stepped) → r.section.force ≡ true
+keeps : (s : Section) (e : Decoded) (r : Stepped Section) → r.section.force ≡ true
     → ((x : Station) → Passes (side_of s x) (side_of r.section x) (departed_by x e r.answer) (received_by (other_at x) e r.answer)) → Keeps s e r
 unfolding well_made
 keeps s e r force each = record {
@@ -103,7 +101,7 @@ unfolding well_made
 kept_refusal s e why h = record { made = h; order = order e }
   where
     order : (e : Decoded) (x : Station) (sent got : List ℕ) → sent ≡ got ++ line_of (side_of s x)
-        → departed_by x e (answer.Refused why) sent ≡ received_by (other_at x) e (answer.Refused why) got ++ line_of (side_of (refused s e why).section x)
+        → departed_by x e (Err why) sent ≡ received_by (other_at x) e (Err why) got ++ line_of (side_of (refused s e why).section x)
     order (Bad w) A sent got p = p
     order (Bad w) B sent got p = p
     order (Says e) A sent got p = p

@@ -4,8 +4,9 @@ use Prim.Native.Nat.{ℕ}
 use Rattle.double.proofs.Computing.{turns_compute}
 use Rattle.double.specs.Sections.{fresh}
 use Rattle.double.specs.Steps.{double}
+use Rattle.std.specs.Prelude.{Err}
+use Rattle.working.specs.Answers.{accept}
 use Rattle.working.specs.Turns.{answers_in, turns_of}
-use Rattle.working.specs.declared.Answer.TheVariants.{Accepted, Refused}
 use Rattle.working.specs.declared.Refusal.TheVariants.{AlreadyInForce, BeforeClock, EndsInside, IntervalRunning, NotInForce, NotNearest}
 use Rattle.working.specs.declared.Speed.TheVariants.{Both, NoSpeed}
 use mathlib.Core.List.{List, [], ◌∷◌}
@@ -22,12 +23,12 @@ log_3 =
     ∷ []
 
 answers_3 : answers_in (turns_of double fresh log_3) ≡
-    Refused NotInForce ∷ Accepted 0 0 NoSpeed ∷ Accepted 1 256 (Both 25 10) ∷ Accepted 1 256 (Both 25 10) ∷ Accepted 2 256 (Both 25 10)
-    ∷ Refused NotNearest ∷ Accepted 0 0 NoSpeed ∷ Accepted 2 256 (Both 25 10) ∷ Accepted 3 256 (Both 25 10) ∷ Accepted 3 256 (Both 25 10)
-    ∷ Accepted 4 256 (Both 25 10) ∷ Accepted 4 256 (Both 25 10) ∷ Refused IntervalRunning ∷ Accepted 5 256 (Both 25 10) ∷ Accepted 5 256 (Both 25 10)
-    ∷ Accepted 6 256 (Both 25 10) ∷ Accepted 7 256 (Both 25 10) ∷ Accepted 8 256 (Both 25 10) ∷ Accepted 9 256 (Both 25 10) ∷ Accepted 10 256 (Both 25 10)
-    ∷ Accepted 6 256 (Both 25 10) ∷ Accepted 7 256 (Both 25 10) ∷ Accepted 8 256 (Both 25 10) ∷ Accepted 11 256 (Both 25 10) ∷ Accepted 9 256 (Both 25 10)
-    ∷ Refused EndsInside
+    Err NotInForce ∷ accept 0 0 NoSpeed ∷ accept 1 256 (Both 25 10) ∷ accept 1 256 (Both 25 10) ∷ accept 2 256 (Both 25 10)
+    ∷ Err NotNearest ∷ accept 0 0 NoSpeed ∷ accept 2 256 (Both 25 10) ∷ accept 3 256 (Both 25 10) ∷ accept 3 256 (Both 25 10)
+    ∷ accept 4 256 (Both 25 10) ∷ accept 4 256 (Both 25 10) ∷ Err IntervalRunning ∷ accept 5 256 (Both 25 10) ∷ accept 5 256 (Both 25 10)
+    ∷ accept 6 256 (Both 25 10) ∷ accept 7 256 (Both 25 10) ∷ accept 8 256 (Both 25 10) ∷ accept 9 256 (Both 25 10) ∷ accept 10 256 (Both 25 10)
+    ∷ accept 6 256 (Both 25 10) ∷ accept 7 256 (Both 25 10) ∷ accept 8 256 (Both 25 10) ∷ accept 11 256 (Both 25 10) ∷ accept 9 256 (Both 25 10)
+    ∷ Err EndsInside
     ∷ []
 unfolding turns_compute
 answers_3 = refl
@@ -48,14 +49,14 @@ log_7 =
     ∷ []
 
 answers_7 : answers_in (turns_of double fresh log_7) ≡
-    Refused NotInForce ∷ Accepted 0 0 NoSpeed ∷ Accepted 1 256 (Both 25 10) ∷ Accepted 1 256 (Both 25 10) ∷ Accepted 2 256 (Both 25 10)
-    ∷ Accepted 2 256 (Both 25 10) ∷ Accepted 3 256 (Both 25 10) ∷ Accepted 3 256 (Both 25 10) ∷ Accepted 0 0 NoSpeed ∷ Accepted 0 0 NoSpeed
-    ∷ Accepted 0 0 NoSpeed ∷ Accepted 4 256 (Both 25 10) ∷ Accepted 5 256 (Both 25 10) ∷ Refused NotNearest ∷ Accepted 6 256 (Both 25 10)
-    ∷ Accepted 7 256 (Both 25 10) ∷ Accepted 0 0 NoSpeed ∷ Accepted 8 256 (Both 25 10) ∷ Accepted 4 256 (Both 25 10) ∷ Accepted 9 256 (Both 25 10)
-    ∷ Accepted 0 0 NoSpeed ∷ Accepted 0 0 NoSpeed ∷ Accepted 0 0 NoSpeed ∷ Accepted 0 0 NoSpeed ∷ Accepted 5 256 (Both 25 10)
-    ∷ Accepted 0 0 NoSpeed ∷ Accepted 0 0 NoSpeed ∷ Refused NotNearest ∷ Accepted 10 256 (Both 25 10) ∷ Accepted 0 0 NoSpeed
-    ∷ Accepted 6 256 (Both 25 10) ∷ Accepted 0 0 NoSpeed ∷ Accepted 0 0 NoSpeed ∷ Accepted 0 0 NoSpeed ∷ Refused BeforeClock
-    ∷ Accepted 7 256 (Both 25 10) ∷ Refused NotNearest ∷ Accepted 8 256 (Both 25 10) ∷ Accepted 0 0 NoSpeed ∷ Refused EndsInside
+    Err NotInForce ∷ accept 0 0 NoSpeed ∷ accept 1 256 (Both 25 10) ∷ accept 1 256 (Both 25 10) ∷ accept 2 256 (Both 25 10)
+    ∷ accept 2 256 (Both 25 10) ∷ accept 3 256 (Both 25 10) ∷ accept 3 256 (Both 25 10) ∷ accept 0 0 NoSpeed ∷ accept 0 0 NoSpeed
+    ∷ accept 0 0 NoSpeed ∷ accept 4 256 (Both 25 10) ∷ accept 5 256 (Both 25 10) ∷ Err NotNearest ∷ accept 6 256 (Both 25 10)
+    ∷ accept 7 256 (Both 25 10) ∷ accept 0 0 NoSpeed ∷ accept 8 256 (Both 25 10) ∷ accept 4 256 (Both 25 10) ∷ accept 9 256 (Both 25 10)
+    ∷ accept 0 0 NoSpeed ∷ accept 0 0 NoSpeed ∷ accept 0 0 NoSpeed ∷ accept 0 0 NoSpeed ∷ accept 5 256 (Both 25 10)
+    ∷ accept 0 0 NoSpeed ∷ accept 0 0 NoSpeed ∷ Err NotNearest ∷ accept 10 256 (Both 25 10) ∷ accept 0 0 NoSpeed
+    ∷ accept 6 256 (Both 25 10) ∷ accept 0 0 NoSpeed ∷ accept 0 0 NoSpeed ∷ accept 0 0 NoSpeed ∷ Err BeforeClock
+    ∷ accept 7 256 (Both 25 10) ∷ Err NotNearest ∷ accept 8 256 (Both 25 10) ∷ accept 0 0 NoSpeed ∷ Err EndsInside
     ∷ []
 unfolding turns_compute
 answers_7 = refl
@@ -74,14 +75,14 @@ log_21 =
     ∷ []
 
 answers_21 : answers_in (turns_of double fresh log_21) ≡
-    Refused NotInForce ∷ Refused NotInForce ∷ Refused NotInForce ∷ Accepted 0 0 NoSpeed ∷ Refused AlreadyInForce
-    ∷ Accepted 0 0 NoSpeed ∷ Refused NotInForce ∷ Refused NotInForce ∷ Refused NotInForce ∷ Refused NotInForce
-    ∷ Refused NotInForce ∷ Refused NotInForce ∷ Accepted 0 0 NoSpeed ∷ Accepted 1 256 (Both 25 10) ∷ Accepted 2 256 (Both 25 10)
-    ∷ Refused IntervalRunning ∷ Accepted 1 256 (Both 25 10) ∷ Accepted 3 256 (Both 25 10) ∷ Accepted 2 256 (Both 25 10) ∷ Accepted 3 256 (Both 25 10)
-    ∷ Accepted 4 256 (Both 25 10) ∷ Accepted 5 256 (Both 25 10) ∷ Accepted 4 256 (Both 25 10) ∷ Accepted 5 256 (Both 25 10) ∷ Accepted 6 256 (Both 25 10)
-    ∷ Accepted 6 256 (Both 25 10) ∷ Refused IntervalRunning ∷ Accepted 7 256 (Both 25 10) ∷ Accepted 8 256 (Both 25 10) ∷ Accepted 9 256 (Both 25 10)
-    ∷ Refused IntervalRunning ∷ Accepted 7 256 (Both 25 10) ∷ Accepted 10 256 (Both 25 10) ∷ Accepted 8 256 (Both 25 10) ∷ Accepted 11 256 (Both 25 10)
-    ∷ Accepted 12 256 (Both 25 10) ∷ Accepted 9 256 (Both 25 10) ∷ Accepted 10 256 (Both 25 10) ∷ Accepted 11 256 (Both 25 10) ∷ Accepted 12 256 (Both 25 10)
+    Err NotInForce ∷ Err NotInForce ∷ Err NotInForce ∷ accept 0 0 NoSpeed ∷ Err AlreadyInForce
+    ∷ accept 0 0 NoSpeed ∷ Err NotInForce ∷ Err NotInForce ∷ Err NotInForce ∷ Err NotInForce
+    ∷ Err NotInForce ∷ Err NotInForce ∷ accept 0 0 NoSpeed ∷ accept 1 256 (Both 25 10) ∷ accept 2 256 (Both 25 10)
+    ∷ Err IntervalRunning ∷ accept 1 256 (Both 25 10) ∷ accept 3 256 (Both 25 10) ∷ accept 2 256 (Both 25 10) ∷ accept 3 256 (Both 25 10)
+    ∷ accept 4 256 (Both 25 10) ∷ accept 5 256 (Both 25 10) ∷ accept 4 256 (Both 25 10) ∷ accept 5 256 (Both 25 10) ∷ accept 6 256 (Both 25 10)
+    ∷ accept 6 256 (Both 25 10) ∷ Err IntervalRunning ∷ accept 7 256 (Both 25 10) ∷ accept 8 256 (Both 25 10) ∷ accept 9 256 (Both 25 10)
+    ∷ Err IntervalRunning ∷ accept 7 256 (Both 25 10) ∷ accept 10 256 (Both 25 10) ∷ accept 8 256 (Both 25 10) ∷ accept 11 256 (Both 25 10)
+    ∷ accept 12 256 (Both 25 10) ∷ accept 9 256 (Both 25 10) ∷ accept 10 256 (Both 25 10) ∷ accept 11 256 (Both 25 10) ∷ accept 12 256 (Both 25 10)
     ∷ []
 unfolding turns_compute
 answers_21 = refl

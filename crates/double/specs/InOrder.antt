@@ -4,12 +4,11 @@ use Rattle.double.specs.Runs.{Run, results, results_of}
 use Rattle.double.specs.Sections.{fresh, line_of, side_of}
 use Rattle.double.specs.Steps.{Begin, Decoded, Depart, Event, Receive, Resume, decode, same_station}
 use Rattle.double.specs.declared.Section.{Section}
-use Rattle.std.specs.Prelude.{List, [], cond, ℕ, ◌++◌, ◌∷◌, ◌≡◌}
+use Rattle.std.specs.Prelude.{Err, List, Ok, [], cond, ℕ, ◌++◌, ◌∷◌, ◌≡◌}
+use Rattle.working.specs.Answers.{Answer}
 use Rattle.working.specs.Events.{Bad, Says}
 use Rattle.working.specs.Runs.{Done}
 use Rattle.working.specs.Sections.{other_at}
-use Rattle.working.specs.declared.Answer.TheVariants.{Accepted, Refused}
-use Rattle.working.specs.declared.Answer.{Answer}
 use Rattle.working.specs.declared.Station.{Station}
 
 -- what an accepted entry makes of the form numbers l of x's departures since BEGIN, its answer's form being n
@@ -29,13 +28,13 @@ receiving x Resume l = l
 -- a refused entry leaves both
 abbrev pub departed_by : Station → Decoded → Answer → List ℕ → List ℕ
 departed_by x (Bad why) answer l = l
-departed_by x (Says event) (Refused why) l = l
-departed_by x (Says event) (Accepted form forms speed) l = departing x form event l
+departed_by x (Says event) (Err why) l = l
+departed_by x (Says event) (Ok given) l = departing x given.form event l
 
 abbrev pub received_by : Station → Decoded → Answer → List ℕ → List ℕ
 received_by x (Bad why) answer l = l
-received_by x (Says event) (Refused why) l = l
-received_by x (Says event) (Accepted form forms speed) l = receiving x event l
+received_by x (Says event) (Err why) l = l
+received_by x (Says event) (Ok _) l = receiving x event l
 
 -- behind the numbers before, those of a list of steps
 abbrev pub departures : Station → List ℕ → List Done → List ℕ

@@ -4,27 +4,22 @@ use Rattle.double.specs.Sections.{count_refusal, emptied, line_of, side, side_of
 use Rattle.double.specs.WellMade.{well_made}
 use Rattle.double.specs.declared.Section.{Section}
 use Rattle.double.specs.declared.Side.{Side}
-use Rattle.double.specs.declared.Stepped.{Stepped}
-use Rattle.std.specs.Prelude.{Bool, List, [], cond, drop, eqb, false, not, true, ℕ, ◌&&◌, ◌++◌, ◌+◌, ◌∷◌}
+use Rattle.std.specs.Prelude.{Bool, Err, List, None, Ok, Option, Some, [], cond, drop, eqb, false, not, true, ℕ, ◌&&◌, ◌++◌, ◌+◌, ◌∷◌}
+use Rattle.working.specs.Answers.{accept}
 use Rattle.working.specs.Entries.{read_at}
 use Rattle.working.specs.Events.{Bad, Said, Says, said_as, station_of}
 use Rattle.working.specs.Reasons.{begin_tests, last_tests, resume_tests, station_tests}
-use Rattle.working.specs.Refusals.{Test, first_of}
+use Rattle.working.specs.Refusals.{Test, Verdict, first_of}
 use Rattle.working.specs.Sections.{number_at, other_at}
 use Rattle.working.specs.Turns.{Working}
-use Rattle.working.specs.declared.Answer.TheVariants as answer
 use Rattle.working.specs.declared.Entry.{Entry}
-use Rattle.working.specs.declared.Interval.TheVariants.{Since}
 use Rattle.working.specs.declared.Read.{Read}
 use Rattle.working.specs.declared.Refusal.TheVariants.{IllMade, NotNearest}
 use Rattle.working.specs.declared.Refusal.{Refusal}
 use Rattle.working.specs.declared.Speed.TheVariants.{Both, NoSpeed}
 use Rattle.working.specs.declared.Station.{Station}
+use Rattle.working.specs.declared.Stepped.{Stepped}
 use Rattle.working.specs.declared.Table.TheVariants.{DoubleLine}
-use Rattle.working.specs.declared.Verdict.TheVariants.{Allowed, Refused}
-use Rattle.working.specs.declared.Verdict.{Verdict}
-use Rattle.working.specs.declared.Whose.TheVariants.{NoStation, Of}
-use Rattle.working.specs.declared.Whose.{Whose}
 
 -- ---- what an entry says
 
@@ -75,16 +70,16 @@ tests_of s Resume = resume_tests s.force (s.a.len + s.b.len)  -- 7, and 8: "resu
 
 -- ---- effects
 
-abbrev pub accepted : Section → Stepped
-accepted s = record { answer = answer.Accepted 0 0 NoSpeed; section = s }
+abbrev pub accepted : Section → Stepped Section
+accepted s = record { answer = accept 0 0 NoSpeed; section = s }
 
 -- "each departure on T/C 602 (forms 256 alone) with both speeds, 25 km/h straight and 10 km/h where the view is obstructed"
-abbrev pub on_order : ℕ → Section → Stepped
-on_order form s = record { answer = answer.Accepted form 256 (Both 25 10); section = s }
+abbrev pub on_order : ℕ → Section → Stepped Section
+on_order form s = record { answer = accept form 256 (Both 25 10); section = s }
 
 -- "takes the next form number of S", which is then the last on its line, "and starts the interval"
 abbrev pub departed : Side → ℕ → Side
-departed d time = side time (d.last + 1) (Since time) (line_of d ++ (d.last + 1) ∷ [])
+departed d time = side time (d.last + 1) (Some time) (line_of d ++ (d.last + 1) ∷ [])
 
 -- the first on O's line is no longer there; "The interval never lapses by a receipt."
 abbrev pub cleared : Side → Side
@@ -93,7 +88,7 @@ cleared d = with_line d (drop 1 (line_of d))
 abbrev pub received : Section → Station → ℕ → Section
 received s x time = with_side (with_side s x (with_clock (side_of s x) time)) (other_at x) (cleared (side_of s (other_at x)))
 
-abbrev pub effect_of : Section → Event → Stepped
+abbrev pub effect_of : Section → Event → Stepped Section
 effect_of s Begin = accepted (emptied true s.refused)
 effect_of s (Depart x time) = on_order ((side_of s x).last + 1) (with_side s x (departed (side_of s x) time))
 effect_of s (Receive x time sender form) = accepted (received s x time)
@@ -102,31 +97,31 @@ effect_of s Resume = accepted (emptied false s.refused)
 -- ---- the step
 
 -- whose a refused step is, as by T-01: "those of no station (refusals 1 to 4, BEGIN, RESUME ..)"; every other is its entry's station's
-abbrev pub whose_is : Decoded → Whose
-whose_is (Bad why) = NoStation
-whose_is (Says Begin) = NoStation
-whose_is (Says (Depart x time)) = Of x
-whose_is (Says (Receive x time sender form)) = Of x
-whose_is (Says Resume) = NoStation
+abbrev pub whose_is : Decoded → Option Station
+whose_is (Bad why) = None
+whose_is (Says Begin) = None
+whose_is (Says (Depart x time)) = Some x
+whose_is (Says (Receive x time sender form)) = Some x
+whose_is (Says Resume) = None
 
 -- "A refusal adds 1 to the count and alters nothing else"
-abbrev pub refused : Section → Decoded → Refusal → Stepped
-refused s step why = record { answer = answer.Refused why; section = count_refusal (whose_is step) s }
+abbrev pub refused : Section → Decoded → Refusal → Stepped Section
+refused s step why = record { answer = Err why; section = count_refusal (whose_is step) s }
 
-abbrev pub settled : Section → Decoded → Verdict → Stepped → Stepped
-settled s step (Refused why) r = refused s step why
-settled s step Allowed r = r
+abbrev pub settled : Section → Decoded → Verdict → Stepped Section → Stepped Section
+settled s step (Err why) r = refused s step why
+settled s step (Ok _) r = r
 
-abbrev pub on_decoded : Section → Decoded → Stepped
+abbrev pub on_decoded : Section → Decoded → Stepped Section
 on_decoded s (Bad why) = refused s (Bad why) why
 on_decoded s (Says event) = settled s (Says event) (first_of (tests_of s event)) (effect_of s event)
 
 -- "5 is tested first, then rising numbers"; it alters nothing
-abbrev pub if_made : Bool → Section → Stepped → Stepped
+abbrev pub if_made : Bool → Section → Stepped Section → Stepped Section
 if_made true s after = after
-if_made false s after = record { answer = answer.Refused IllMade; section = s }
+if_made false s after = record { answer = Err IllMade; section = s }
 
-unfoldable pub step_of : Section → List ℕ → Stepped
+unfoldable pub step_of : Section → List ℕ → Stepped Section
 step_of s bytes = if_made (well_made s) s (on_decoded s (decode bytes))
 
 -- what is worked: the double line's table, and this step

@@ -5,15 +5,15 @@
 ghost use Rattle.double.specs.Sections.{fresh, fresh_side};
 ghost use Rattle.std.specs.Prelude.{◌≡◌};
 
-use working::{Answer, Counts, Interval};
+use working::Counts;
 
 // A station's figures and the line that leaves it: the minute of its last accepted entry, its last form number, the minute of its last departure since BEGIN, and the
-// form numbers of its trains still on the line, as sent, in the first `len` of twelve places.
+// form numbers of its trains still on the line, as sent, in the first `len` of twelve places. The places behind them are looked at where a section is tested (`side_made`).
 #[derive(Clone, Copy, Drop)]
 pub struct Side {
     pub clock: u16,
     pub last: u16,
-    pub interval: Interval,
+    pub interval: Option<u16>,
     pub numbers: [u16; Side::PLACES],
     pub len: u8,
 }
@@ -29,7 +29,7 @@ impl Side {
         Side {
             clock: 0,
             last: 0,
-            interval: Interval::Stopped,
+            interval: None,
             numbers: [0; Side::PLACES],
             len: 0,
         }
@@ -57,11 +57,4 @@ impl Section {
             b: Side::fresh(),
         }
     }
-}
-
-// An answer, and the section after it.
-#[derive(Clone, Copy, Drop)]
-pub struct Stepped {
-    pub answer: Answer,
-    pub section: Section,
 }

@@ -5,17 +5,19 @@ use Prim.Native.Nat.{min, suc, zero, ℕ, ◌%◌, ◌+◌, ◌-◌, ◌<◌, �
 use Rattle.double.specs.Steps.{is_first}
 use Rattle.doubleentering.specs.DoubleWords.{PlacesBecome, moved_up, places_from, places_in}
 use Rattle.section.proofs.Passes.{take_present}
+use Rattle.std.proofs.lemmas.List.{ext_get_or}
 use Rattle.words.specs.Words.{ring_from, ring_in, word_count}
 use Rattle.working.specs.Sections.{other_at, pad_with}
 use Rattle.working.specs.declared.Station.TheVariants.{A, B}
 use Rattle.working.specs.declared.Station.{Station}
 use borrow.Author.Tests.{lt-ltb}
 use lib.Dec.{eqb, ltb}
-use lib.ListN.{drop, get_or, get_or-map, length, length-drop, length-map, length-set, length-take, replicate, set, take}
+use lib.ListN.{drop, get_or, get_or-append, get_or-map, length, length-append, length-drop, length-map, length-set, length-take, replicate, set, take}
 use lib.Seq.{drop-set-add, drop-set-lt, get_or-append-add, get_or-drop, get_or-take, length-take-le, take-append-le, take-set-le, take-set-lt, take-suc-set, take_all}
 use mathlib.Core.Bool.{◌&&◌}
 use mathlib.Core.List.{List, [], map, ◌++◌, ◌∷◌}
 use mathlib.Core.Path.{ap, refl, sym, ◌∙◌, ◌≡◌}
+use native.Mathlib.Decide.{dec_lt}
 use native.Mathlib.Numerals.{add-one}
 use native.Mathlib.Omega.{arith}
 
@@ -128,10 +130,64 @@ line_rest (suc n) (a ∷ l) long =
     let all : take 11 l ≡ l = take_all 11 l (omega arith) in
     rw (fewer, all, take-append-le (min n 11) l _ (omega arith)) (take_present l n 11 (omega arith))
 
--- the number that moves up
-pub moves : (l : List ℕ) (i : ℕ) → i + 1 < length l → get_or (take i (drop 1 l) ++ drop i l) (i + 1) 0 ≡ get_or (drop 1 l) i 0
-moves l i less =
-    let front = take i (drop 1 l) in
-    let size : length front + 1 ≡ i + 1 = omega (arith, length-take-le i (drop 1 l) (simp length-drop (omega arith))) in
-    let there : i + 1 ≡ 1 + i = omega arith in
-    ap (λ k. get_or (front ++ drop i l) k 0) (sym size) ∙ get_or-append-add front (drop i l) 1 0 ∙ get_or-drop i l 1 0 ∙ ap (λ k. get_or l k 0) there ∙ sym (get_or-drop 1 l i 0)
+-- ---- all have moved up
+
+-- each number is that of the place behind it, and the last keeps its own
+moved_at : (l : List ℕ) → length l ≡ 12 → (i : ℕ) → i < 12 → get_or (moved_up l) i 0 ≡ get_or l (min (i + 1) 11) 0
+moved_at l long i less = by (dec_lt i 11)
+  where
+    size : length (take 11 (drop 1 l)) ≡ 11
+    size = length-take-le 11 (drop 1 l) (simp length-drop (omega arith))
+
+    by : Dec (i < 11) → get_or (moved_up l) i 0 ≡ get_or l (min (i + 1) 11) 0
+    by (yes p) =
+        let next : 1 + i ≡ min (i + 1) 11 = omega arith in
+        get_or-append (take 11 (drop 1 l)) (drop 11 l) 0 i (omega (arith, size)) ∙ get_or-take 11 (drop 1 l) i 0 p ∙ get_or-drop 1 l i 0 ∙ ap (λ k. get_or l k 0) next
+    by (no q) =
+        let last : i ≡ length (take 11 (drop 1 l)) + 0 = omega (arith, size) in
+        let own : 11 + 0 ≡ min (i + 1) 11 = omega arith in
+        ap (λ k. get_or (moved_up l) k 0) last ∙ get_or-append-add (take 11 (drop 1 l)) (drop 11 l) 0 0 ∙ get_or-drop 11 l 0 0 ∙ ap (λ k. get_or l k 0) own
+
+-- eleven words copied to the place before them, and all others as they were
+pub record Copied (w u : List ℕ) (x : Station) : Type 0 where
+  pub long : length w ≡ word_count
+  pub same : length u ≡ length w
+  pub below : (k d : ℕ) → k < line_from x → get_or u k d ≡ get_or w k d
+  pub moved : (k d : ℕ) → line_from x ≤ k → k < line_from x + 11 → get_or u k d ≡ get_or w (line_from x + 1 + (k - line_from x)) d
+  pub behind : (k d : ℕ) → line_from x + 11 ≤ k → get_or u k d ≡ get_or w k d
+
+word_moved : (w u : List ℕ) (x : Station) → Copied w u x → (i : ℕ) → i < 12 → get_or u (line_from x + i) 0 ≡ get_or w (line_from x + min (i + 1) 11) 0
+word_moved w u x c i less = by (dec_lt i 11)
+  where
+    by : Dec (i < 11) → get_or u (line_from x + i) 0 ≡ get_or w (line_from x + min (i + 1) 11) 0
+    by (yes p) =
+        let next : line_from x + 1 + (line_from x + i - line_from x) ≡ line_from x + min (i + 1) 11 = omega arith in
+        c.moved (line_from x + i) 0 (omega arith) (omega arith) ∙ ap (λ k. get_or w k 0) next
+    by (no q) =
+        let own : line_from x + i ≡ line_from x + min (i + 1) 11 = omega arith in
+        c.behind (line_from x + i) 0 (omega arith) ∙ ap (λ k. get_or w k 0) own
+
+other_word : (w u : List ℕ) (x : Station) → Copied w u x → (i : ℕ) → i < 12 → get_or u (line_from (other_at x) + i) 0 ≡ get_or w (line_from (other_at x) + i) 0
+other_word w u A c i less = c.behind (line_from B + i) 0 (omega arith)
+other_word w u B c i less = c.below (line_from A + i) 0 (omega arith)
+
+pub line_moved : (w u : List ℕ) (x : Station) → Copied w u x → PlacesBecome w u x moved_up
+line_moved w u x c =
+    let t = places_in (ring_in w) x in
+    let count = places_count w c.long x in
+    let after = places_count u (c.same ∙ c.long) x in
+    let other = places_count w c.long (other_at x) in
+    let other-after = places_count u (c.same ∙ c.long) (other_at x) in
+    let size : length (moved_up t) ≡ 12 = simp (length-append, length-take, length-drop) (omega arith) in
+    let front : length (take ring_from u) ≡ ring_from = length-take-le ring_from u (omega (arith, c.same, c.long)) in
+    let front-before : length (take ring_from w) ≡ ring_from = length-take-le ring_from w (omega (arith, c.long)) in
+    record {
+      long = c.long;
+      same = c.same;
+      figures = ext_get_or 0 (take ring_from u) (take ring_from w) (front ∙ sym front-before) (λ i h.
+          get_or-take ring_from u i 0 (omega (arith, front)) ∙ c.below i 0 (omega (arith, front)) ∙ sym (get_or-take ring_from w i 0 (omega (arith, front))));
+      places = ext_get_or 0 (places_in (ring_in u) x) (moved_up t) (after ∙ sym size) (λ i h.
+          place_at u x i (omega arith) ∙ ap number (word_moved w u x c i (omega arith)) ∙ sym (place_at w x (min (i + 1) 11) (omega arith)) ∙ sym (moved_at t count i (omega arith)));
+      others = ext_get_or 0 (places_in (ring_in u) (other_at x)) (places_in (ring_in w) (other_at x)) (other-after ∙ sym other) (λ i h.
+          place_at u (other_at x) i (omega arith) ∙ ap number (other_word w u x c i (omega arith)) ∙ sym (place_at w (other_at x) i (omega arith)));
+    }

@@ -9,20 +9,19 @@ use Rattle.double.specs.declared.Side.{Side}
 use Rattle.doubleentering.proofs.Numbers.{line_kept, line_next, line_rest, places_count}
 use Rattle.doubleentering.specs.DoubleWords.{PlacesBecome, SideBecomes, double_in, moved_up, places_in, side_by}
 use Rattle.entering.specs.Entering.{Refuses}
+use Rattle.std.specs.Prelude.{Option, Some}
 use Rattle.words.proofs.Written.{as_written, written}
 use Rattle.words.specs.Words as words
 use Rattle.words.specs.Words.{DeskBecomes, OwnWords, RingKept, ring_from, ring_in, section_in, with_departure, with_sent, word_count}
+use Rattle.working.specs.Answers.{Answer}
 use Rattle.working.specs.Sections as single
 use Rattle.working.specs.Sections.{desk_of, other_at, with_desk}
-use Rattle.working.specs.declared.Answer.{Answer}
 use Rattle.working.specs.declared.Counts.{Counts}
 use Rattle.working.specs.declared.Desk.{Desk}
-use Rattle.working.specs.declared.Interval.TheVariants.{Since}
 use Rattle.working.specs.declared.Refusal.{Refusal}
 use Rattle.working.specs.declared.Section.{Section}
 use Rattle.working.specs.declared.Station.TheVariants.{A, B}
 use Rattle.working.specs.declared.Station.{Station}
-use Rattle.working.specs.declared.Whose.{Whose}
 use lib.ListN.{drop, length, length-append, length-drop, length-take, set, take, take-append-drop}
 use lib.Seq.{length-take-le}
 use mathlib.Core.Bool.{Bool}
@@ -122,7 +121,7 @@ side_as d places l e f = rw (e, f)
 -- with one more behind it
 pub train_put : {w u v : List ℕ} (x : Station) (time form sent : ℕ) → sent ≡ (desk_of (section_in w) x).sent → sent < 12
     → DeskBecomes w u x (with_departure time form (sent + 1)) → RingKept w u → PlacesBecome u v x (λ t. set t sent form)
-    → SideBecomes w v x (λ d. side time form (Since time) (line_of d ++ form ∷ []))
+    → SideBecomes w v x (λ d. side time form (Some time) (line_of d ++ form ∷ []))
 train_put {w} {u} x time form sent is room desk ring put =
     let figures = with_departure time form (sent + 1) in
     let p = places_in (ring_in w) x in
@@ -133,7 +132,7 @@ train_put {w} {u} x time form sent is room desk ring put =
     let lined = side_as (figures (desk_of (section_in w) x)) (set p sent form) l (line_next p sent form (omega arith)) size in
     let was = ap (λ n. take n p) is ∙ sym (line_is w long x) in
     desk_places_side x figures (λ t. set t sent form) desk ring put
-    ∙ ap (with_side (double_in w) x) (lined ∙ ap (λ (k : List ℕ). side time form (Since time) (k ++ form ∷ [])) was)
+    ∙ ap (with_side (double_in w) x) (lined ∙ ap (λ (k : List ℕ). side time form (Some time) (k ++ form ∷ [])) was)
 
 -- without its first
 pub first_taken_lem : {w u v : List ℕ} (x : Station) (n : ℕ) → n ≡ min (desk_of (section_in w) x).sent 12 - 1
@@ -151,7 +150,7 @@ first_taken_lem {w} {u} x n is desk ring put =
 -- ---- the others
 
 -- one more entry refused
-pub refusal_counted : {w u : List ℕ} {whose : Whose} {why : Refusal} {given : Answer} → Refuses w whose why given u → double_in u ≡ count_refusal whose (double_in w)
+pub refusal_counted : {w u : List ℕ} {whose : Option Station} {why : Refusal} {given : Answer} → Refuses w whose why given u → double_in u ≡ count_refusal whose (double_in w)
 refusal_counted {w} {u} {whose = whose} refuses = by_figures w u refuses.words.section refuses.ring ∙ ap (count_refusal whose) (sym (double_is w))
 
 -- all made anew

@@ -10,11 +10,11 @@ use Rattle.double.specs.Sections.{line_of, side_of, with_side}
 use Rattle.double.specs.Steps.{Decoded, Event, on_decoded}
 use Rattle.double.specs.declared.Section.{Section}
 use Rattle.double.specs.declared.Side.{Side}
-use Rattle.std.specs.Prelude.{List, drop, eqb, get_or, length, map, take, ℕ, ◌%◌, ◌++◌, ◌≡◌}
+use Rattle.std.specs.Prelude.{Err, List, Ok, drop, eqb, get_or, length, map, take, ℕ, ◌%◌, ◌++◌, ◌≡◌}
 use Rattle.words.specs.Words.{counts_in, desk_in, ring_from, ring_in, word_count}
+use Rattle.working.specs.Answers.{Answer}
 use Rattle.working.specs.Events.{Says}
 use Rattle.working.specs.Sections.{other_at, pad_with}
-use Rattle.working.specs.declared.Answer.{Answer}
 use Rattle.working.specs.declared.Desk.{Desk}
 use Rattle.working.specs.declared.Station.TheVariants.{A, B}
 use Rattle.working.specs.declared.Station.{Station}
@@ -67,6 +67,16 @@ moved_up l = take 11 (drop 1 l) ++ drop 11 l
 -- a station's side alone is altered
 abbrev pub SideBecomes : List ℕ → List ℕ → Station → (Side → Side) → Type 0
 SideBecomes before after x f = double_in after ≡ with_side (double_in before) x (f (side_of (double_in before) x))
+
+-- the section that the words stand for before a refusal is counted: by the answer the section as it was, or the one after it
+abbrev pub Puts : Answer → List ℕ → Section → List ℕ → Type 0
+Puts (Err why) before s after = double_in after ≡ double_in before
+Puts (Ok order) before s after = double_in after ≡ s
+
+-- an entry that is taken, before a refusal is counted
+pub record Tries (before : List ℕ) (event : Event) (given : Answer) (after : List ℕ) : Type 0 where
+  pub answer : given ≡ (on_decoded (double_in before) (Says event)).answer
+  pub section : let t = on_decoded (double_in before) (Says event) in Puts t.answer before t.section after
 
 -- the answer to an entry, and to what was read at some place, with the section after it
 pub record Answers (before : List ℕ) (decoded : Decoded) (given : Answer) (after : List ℕ) : Type 0 where

@@ -3,7 +3,7 @@ ghost use Rattle.double.specs.Sections.{side_of};
 ghost use Rattle.doubleentering.specs.DoubleWords.{PlacesBecome, SideBecomes, double_in, trimmed, trimmed_side};
 ghost use Rattle.std.specs.Prelude.{◌≡◌};
 
-use crate::places::{TWO_BYTES, fitting, line_from};
+use crate::places::{TWO_BYTES, line_from};
 use double::{Section, Side};
 use words::{Words, desk, emptied_words, in_force, put_desk, refused};
 use working::{Desk, Station};
@@ -12,18 +12,16 @@ use working::{Desk, Station};
 fn numbers_in(words: &Words, at: Station) -> [u16; Side::PLACES]
     ensures { result ≡ (side_of (double_in words.now) at).numbers }
 {
-    let _ = &words[..];
     let from = line_from(at);
-    let present = fitting(desk(words, at).sent);
+    let present = usize::from(desk(words, at).sent).min(Side::PLACES);
     let mut numbers = [0u16; Side::PLACES];
-    let mut i = 0;
-    while i < present {
+    for i in 0..present {
         numbers[i] = (words[from + i] % TWO_BYTES) as u16;
-        i += 1;
     }
     numbers
 }
 
+#[tactic(auto, using(crate::proofs::Sides::side_is))]
 fn side_in(words: &Words, at: Station) -> Side
     ensures { result ≡ side_of (double_in words.now) at }
 {
@@ -39,6 +37,7 @@ fn side_in(words: &Words, at: Station) -> Side
 }
 
 // The section that the words stand for.
+#[tactic(auto, unfolding(crate::specs::DoubleWords::double_in, words::specs::Words::section_in))]
 pub fn section_in(words: &Words) -> Section
     ensures { result ≡ double_in words.now }
 {
@@ -54,12 +53,9 @@ pub fn section_in(words: &Words) -> Section
 fn put_places(words: &mut Words, at: Station, numbers: [u16; Side::PLACES])
     ensures { PlacesBecome words.old words.new at (λ _. numbers) }
 {
-    let _ = &words[..];
     let from = line_from(at);
-    let mut i = 0;
-    while i < Side::PLACES {
+    for i in 0..Side::PLACES {
         words[from + i] = numbers[i] as u64;
-        i += 1;
     }
 }
 

@@ -1,42 +1,34 @@
 // The test that a double line section is well made: each line's numbers and unused places in a pass of their own, then the figures.
 ghost use Rattle.double.specs.WellMade.{is_fresh_side, rising, side_made, well_made};
-ghost use Rattle.std.specs.Prelude.{drop, take, ◌≡◌, ◌≤◌};
+ghost use Rattle.std.specs.Prelude.{◌≡◌};
 ghost use Rattle.working.specs.Entries.{every};
 ghost use Rattle.working.specs.WellMade.{zero_tests};
 
 use double::{Section, Side};
 use section::is_not_later;
-use working::{Desk, Interval};
+use working::Desk;
 
-// Whether the first `len` numbers rise, all of them above 0 and none above `last`.
-fn rises(numbers: [u16; Side::PLACES], len: usize, last: u16) -> bool
-    requires { len ≤ 12 }
-    ensures { result ≡ rising 0 last (take len numbers) }
+// Whether numbers rise, all of them above 0 and none above `last`. `is_sorted_by` would leave the two ends to be tested beside it.
+fn rises(line: &[u16], last: u16) -> bool
+    ensures { result ≡ rising 0 last line.now }
 {
     let mut below: u16 = 0;
     let mut rises = true;
-    let mut i = 0;
-    while i < len {
-        let number = numbers[i];
-        rises = rises & ((below < number) & (number <= last));
-        below = number;
-        i += 1;
+    for number in line {
+        rises = rises & ((below < *number) & (*number <= last));
+        below = *number;
     }
     rises
 }
 
-// Whether the places from `from` on are unused.
-fn unused_from(numbers: [u16; Side::PLACES], from: usize) -> bool
-    requires { from ≤ 12 }
-    ensures { result ≡ every (zero_tests (drop from numbers)) }
+// Whether places are unused, the last first, as a single line's; one for both would take the test of a place as an argument.
+fn all_unused(places: &[u16]) -> bool
+    ensures { result ≡ every (zero_tests places.now) }
 {
-    let mut unused = true;
-    let mut i = Side::PLACES;
-    while from < i {
-        i -= 1;
-        unused = (numbers[i] == 0) & unused;
-    }
-    unused
+    places
+        .iter()
+        .rev()
+        .fold(true, |unused, number| (*number == 0) & unused)
 }
 
 fn side_made(d: Side) -> bool
@@ -44,23 +36,25 @@ fn side_made(d: Side) -> bool
 {
     let interval = d.interval;
     let numbers = d.numbers;
-    let len = d.len as usize;
+    let len = usize::from(d.len);
     if Side::PLACES < len {
         return false;
     }
-    let line = rises(numbers, len, d.last) & unused_from(numbers, len);
-    (d.last <= Desk::LAST_FORM) & line & is_not_later(interval, d.clock)
+    let (line, unused) = numbers.split_at(len);
+    let numbered = rises(line, d.last) & all_unused(unused);
+    (d.last <= Desk::LAST_FORM) & numbered & is_not_later(interval, d.clock)
 }
 
-// Whether nothing has been entered at a side.
+// Whether nothing has been entered at a side. The numbers are left out, which `side_made` has looked at, and so this is no equality with `Side::fresh()`.
 fn is_fresh(d: Side) -> bool
     ensures { result ≡ is_fresh_side d }
 {
     let interval = d.interval;
-    (d.clock == 0) & (d.last == 0) & (interval.number() == 0) & (d.len == 0)
+    (d.clock == 0) & (d.last == 0) & interval.is_none() & (d.len == 0)
 }
 
 // Whether a section is well made.
+#[tactic(auto, unfolding(double::specs::WellMade::well_made))]
 pub fn well_made(s: Section) -> bool
     ensures { result ≡ well_made s }
 {

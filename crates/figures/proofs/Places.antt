@@ -1,10 +1,15 @@
--- Places of the same size, one behind another, read one by one, are all of them. Assumes nothing.
-use Prim.Native.Nat.{suc, zero, ℕ, ◌*◌, ◌+◌, ◌<◌}
-use Rattle.figures.specs.Figures.{each_at}
+-- Places of the same size, one behind another, read one by one, are all of them; and the vehicles that position's reader finds in 24 places are a section's.
+-- Assumes nothing.
+use Prim.Native.Nat.{min, suc, zero, ℕ, ◌*◌, ◌+◌, ◌/◌, ◌<◌, ◌≤◌}
+use Rattle.figures.specs.Figures.{each_at, places_in, vehicle_at}
+use Rattle.position.proofs.Places.{length-vehicles_from}
+use Rattle.position.specs.Reading.{vehicles_from}
+use Rattle.working.specs.Sections.{pad_to, pad_with}
+use Rattle.working.specs.declared.Vehicle.{Vehicle}
 use borrow.Author.Count.{below_more}
-use lib.ListN.{get_or, length, set}
-use lib.Seq.{ext_get_or, get_or-set_other, get_or-set_same}
-use mathlib.Core.List.{List}
+use lib.ListN.{drop, get_or, length, set}
+use lib.Seq.{drop-drop, ext_get_or, get_or-set_other, get_or-set_same}
+use mathlib.Core.List.{List, [], ◌∷◌}
 use mathlib.Core.Path.{ap, refl, sym, ◌∙◌, ◌≡◌}
 use native.Mathlib.Nat.{suc-mul}
 use native.Mathlib.Omega.{arith}
@@ -36,3 +41,24 @@ module _ {A : Type 0} (read : ℕ → A) (size : ℕ) (none : A) where
       below_more (λ k. read (at + k * size) ≡ get_or (set places i v) k none) i
       (λ k h. rw (get_or-set_other places i k v none (λ e. omega arith)) (each k h))
       (rw (get_or-set_same places i v none less) here)
+
+-- ---- a section's places
+
+from_each : (n at : ℕ) (figures : List ℕ) → vehicles_from n (drop at figures) ≡ each_at (vehicle_at figures) 10 n at
+unfolding vehicles_from each_at
+from_each zero at figures = refl
+from_each (suc n) at figures = ap (vehicle_at figures at ∷◌) (ap (vehicles_from n) (drop-drop 10 at figures) ∙ from_each n (at + 10) figures)
+
+-- as many as there is room for are padded with none
+pad_full : (n : ℕ) (l : List Vehicle) → length l ≡ n → pad_to n l ≡ l
+unfolding pad_with
+pad_full zero [] long = refl
+pad_full zero (v ∷ l) long = absurd (omega arith)
+pad_full (suc n) [] long = absurd (omega arith)
+pad_full (suc n) (v ∷ l) long = ap (v ∷◌) (pad_full n l (omega arith))
+
+-- a head has bytes for all 24 places
+pub section_places : (figures : List ℕ) → 240 ≤ length figures → pad_to 24 (vehicles_from (min (min 24 24) (length figures / 10)) figures) ≡ places_in figures
+section_places figures long =
+    let all : min (min 24 24) (length figures / 10) ≡ 24 = omega (arith, long) in
+    rw all (pad_full 24 (vehicles_from 24 figures) (length-vehicles_from 24 figures) ∙ from_each 24 0 figures)

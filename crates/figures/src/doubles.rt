@@ -4,9 +4,8 @@ ghost use Rattle.figures.specs.Figures.{longest_head};
 ghost use Rattle.std.specs.Prelude.{◌+◌, ◌≡◌, ◌≤◌};
 
 use crate::heads::{Head, number_at};
-use crate::sections::counts_at;
 use double::{Section, Side};
-use position::interval_of;
+use position::{counts_in, interval_of};
 
 // Where the figures behind the first byte, in force, begin: refused, and the sides of A and B.
 pub const DOUBLE_REFUSED: usize = 1;
@@ -24,10 +23,8 @@ fn numbers_in(figures: &Head, at: usize) -> [u16; Side::PLACES]
     ensures { result ≡ numbers_at figures.now at }
 {
     let mut numbers = [0u16; Side::PLACES];
-    let mut i = 0;
-    while i < Side::PLACES {
+    for i in 0..Side::PLACES {
         numbers[i] = number_at(figures, at + i * 2);
-        i += 1;
     }
     numbers
 }
@@ -52,7 +49,7 @@ pub fn double_in(figures: &Head) -> Section
 {
     Section {
         force: figures[0] == 1,
-        refused: counts_at(figures, DOUBLE_REFUSED),
+        refused: counts_in(figures[DOUBLE_REFUSED..].first_chunk().unwrap()),
         a: side_in(figures, SIDE_A),
         b: side_in(figures, SIDE_B),
     }

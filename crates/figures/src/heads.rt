@@ -16,12 +16,9 @@ pub type Head = [u8; LONGEST_HEAD];
 pub fn number_at(head: &Head, at: usize) -> u16
     ensures { result ≡ two_at head.now at }
 {
-    let bytes = &head[..];
-    if bytes.len() <= at {
-        return 0;
+    match head.get(at..) {
+        Some([high, low, ..]) => two(*high, *low),
+        Some([high]) => two(*high, 0),
+        _ => 0,
     }
-    if bytes.len() - at == 1 {
-        return two(bytes[at], 0);
-    }
-    two(bytes[at], bytes[at + 1])
 }

@@ -1,57 +1,53 @@
--- The section's words copied, and five numbers behind them, stand in a row before what was behind them: `stored`. Words so stored are those of the listing that they were
--- made of: `holds`.
--- With enough words lent, a buffer is filled from where they say that the listing stands: `fills`.
+-- What is read at the front of a list is the same where the list is cut behind it: `section_front`, `listed_front`, `entry_front`. A section's words and five numbers, before what
+-- was behind them, are those of the listing that they were made of: `holds`.
+-- With enough words lent, a listing is begun in them, `begins`, and a buffer is filled from where they say that it stands: `fills`.
 -- Assumes nothing.
-use Prim.Native.Nat.{ℕ, ◌+◌, ◌≤◌}
-use Rattle.lupinshift.specs.State.{FillsOn, Keeps, figure_words, listed_at, listing_at, state_words}
-use Rattle.step.specs.ListingLines.{FillsWords}
+use Prim.Native.Nat.{ℕ, ◌+◌, ◌<◌, ◌≤◌}
+use Rattle.lupinshift.specs.Fields.{entry_from}
+use Rattle.lupinshift.specs.State.{Begins, FillsOn, Keeps, figure_words, listed_at, listing_at, state_words}
+use Rattle.std.proofs.lemmas.List.{get_or-take, take-take}
+use Rattle.step.specs.ListingLines.{FillsWords, start_of}
 use Rattle.step.specs.declared.next_line.Listed.{Listed}
 use Rattle.step.specs.declared.next_line.Put.{Put}
-use Rattle.words.specs.Words.{word_count}
-use Rattle.working.specs.Entries.{pasted}
+use Rattle.words.specs.Words.{OwnWords, by_slot, slot_words, word_count, words_of}
+use Rattle.working.specs.Sections.{fresh}
 use Rattle.working.specs.WellMade.{one_if}
 use Rattle.working.specs.declared.Table.TheVariants.{SingleLine}
 use borrow.Author.Tests.{ltb-true}
 use lib.Dec.{eqb}
-use lib.ListN.{drop, get_or, length, length-append, length-drop, set, take}
-use lib.Seq.{drop-drop, drop-length, drop_at, get_or-drop, length-take-le, sets-eq, take_all, take_at}
+use lib.ListN.{drop, get_or, length, length-append, length-drop, take}
+use lib.Seq.{drop_at, get_or-drop, take_at}
 use mathlib.Core.Bool.{Bool, false, true}
-use mathlib.Core.List.{List, [], append-nil, append_assoc, ◌++◌, ◌∷◌}
+use mathlib.Core.List.{List, append_assoc, ◌++◌}
 use mathlib.Core.Path.{ap, refl, sym, ◌∙◌, ◌≡◌}
 use native.Mathlib.Omega.{arith}
 
--- ---- words read
+-- ---- what stands at the front
 
--- a run of words copied over a list of just that length is the run
-pub read : (words zeros : List ℕ) {after : List ℕ} (first n : ℕ) → after ≡ pasted zeros 0 (take n (drop first words)) → length zeros ≡ n → first + n ≤ length words
-    → after ≡ take n (drop first words)
-read words zeros first n copied size room =
-    let run : List ℕ = take n (drop first words) in
-    let long : length run ≡ n = length-take-le n (drop first words) (simp length-drop (omega arith)) in
-    let end : 0 + length run ≡ length zeros = omega arith in
-    copied ∙ ap (λ (k : ℕ). run ++ drop k zeros) end ∙ rw (drop-length zeros) (append-nil run)
+pub section_front : (words : List ℕ) → take word_count (take state_words words) ≡ take word_count words
+section_front words = take-take word_count state_words words (omega arith)
 
--- ---- words stored
+pub listed_front : (words : List ℕ) → listed_at (take state_words words) ≡ listed_at words
+listed_front words =
+    let number : (k : ℕ) → k < state_words → get_or (take state_words words) k 0 ≡ get_or words k 0 = λ k h. get_or-take state_words words k 0 h in
+    rw (number 90 (omega arith), number 91 (omega arith), number 92 (omega arith), number 93 (omega arith), number 94 (omega arith))
 
--- a run pasted behind what stands at the front of a list
-paste_on : (head words run : List ℕ) (n m : ℕ) → length head ≡ n → n + length run ≡ m → pasted (head ++ drop n words) n run ≡ (head ++ run) ++ drop m words
-paste_on head words run n m size e =
-    let behind : drop (n + length run) (head ++ drop n words) ≡ drop m words =
-    sym (drop-drop (length run) n (head ++ drop n words)) ∙ ap (drop (length run)) (drop_at head (drop n words) n size)
-    ∙ drop-drop (length run) n words ∙ ap (λ (k : ℕ). drop k words) e in
-    rw (take_at head (drop n words) n size, behind) (sym (append_assoc head run (drop m words)))
-
-pub stored : (words section : List ℕ) (at left entries accepted ended : ℕ) → length section ≡ word_count → state_words ≤ length words
-    → set (set (set (set (set (pasted words 0 (take word_count (drop 0 section))) word_count at) (word_count + 1) left) (word_count + 2) entries) (word_count + 3) accepted) (word_count + 4) ended
-    ≡ (section ++ (at ∷ left ∷ entries ∷ accepted ∷ ended ∷ [])) ++ drop state_words words
-stored words section at left entries accepted ended size room =
-    let numbers : List ℕ = at ∷ left ∷ entries ∷ accepted ∷ ended ∷ [] in
-    let first : pasted words 0 section ≡ section ++ drop word_count words = paste_on [] words section 0 word_count refl (omega arith) in
-    let long : word_count + length numbers ≤ length (section ++ drop word_count words) = simp (length-append, length-drop) (omega arith) in
-    rw (take_all word_count section (omega arith), first)
-    (sets-eq numbers (section ++ drop word_count words) word_count long
-    ∙ append_assoc (take word_count (section ++ drop word_count words)) numbers (drop state_words (section ++ drop word_count words))
-    ∙ paste_on section words numbers word_count state_words size refl)
+pub entry_front : (fields : List ℕ) → entry_from (take 10 fields) ≡ entry_from fields
+unfolding entry_from
+entry_front fields =
+    let number : (k : ℕ) → k < 10 → get_or (take 10 fields) k 0 ≡ get_or fields k 0 = λ k h. get_or-take 10 fields k 0 h in
+    rw (
+      number 0 (omega arith),
+      number 1 (omega arith),
+      number 2 (omega arith),
+      number 3 (omega arith),
+      number 4 (omega arith),
+      number 5 (omega arith),
+      number 6 (omega arith),
+      number 7 (omega arith),
+      number 8 (omega arith),
+      number 9 (omega arith),
+    )
 
 -- ---- what they stand for
 
@@ -78,6 +74,19 @@ holds l words section after size room e =
     }
 
 -- ---- a call
+
+fresh_size : length (words_of fresh 0) ≡ word_count
+unfolding words_of slot_words by_slot
+fresh_size = refl
+
+pub begins : {log words section state : List ℕ} {l : Listed} → state_words ≤ length words → OwnWords section fresh → l ≡ start_of (length log) → state ≡ section ++ figure_words l
+    → Begins log words state_words (state ++ drop state_words words)
+begins {log} {words} {section} {state} {l} enough own start e =
+    let k = holds l words section (state ++ drop state_words words) (ap length own.words ∙ fresh_size) enough (ap (λ (x : List ℕ). x ++ drop state_words words) e) in
+    record {
+      short = λ less. absurd (omega (arith, ltb-true (length words) state_words less));
+      begins = λ more. record { count = refl; state = rw (own.section, start) at k.holds; own = k.front ∙ own.words };
+    }
 
 pub fills : {words log out section words₁ out₁ : List ℕ} {r : Put} → state_words ≤ length words
     → FillsWords SingleLine log (take word_count words) (listed_at words) out r section out₁ → Keeps section r.listed words words₁ → FillsOn words log out r.behind words₁ out₁

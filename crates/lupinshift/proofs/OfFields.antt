@@ -3,10 +3,12 @@
 -- Assumes nothing.
 use Prim.Native.Nat.{ℕ, ◌+◌}
 use Rattle.lupinshift.specs.Fields.{ReadsEntry, WritesEntry, entry_from, fields_read, number_read}
+use Rattle.std.specs.Prelude.{Result}
 use Rattle.working.proofs.examples.Computing.{reading_computes}
-use Rattle.working.specs.Entries.{bytes_of, judge, length_of, log_after, log_as, pasted, read_at, refusal_written, written_as, written_at}
+use Rattle.working.specs.Entries.{bytes_of, judge, length_of, log_after, log_as, pasted, read_at, written_as, written_at}
+use Rattle.working.specs.Refusals.{refusal_in}
+use Rattle.working.specs.declared.Refusal.{Refusal}
 use Rattle.working.specs.declared.Table.TheVariants.{SingleLine}
-use Rattle.working.specs.declared.Written.{Written}
 use lib.Dec.{leb, ltb}
 use lib.ListN.{drop, length}
 use mathlib.Core.Bool.{cond}
@@ -53,10 +55,10 @@ none_read = (
 record Writes (fields : List ℕ) (lent number : ℕ) (given : List ℕ) : Type 0 where
   writes : (bytes after : List ℕ) (answer : ℕ) → length bytes ≡ lent → WritesEntry fields bytes answer after → (answer ≡ number) × (after ≡ given ++ drop (length given) bytes)
 
-abbrev written_in : List ℕ → ℕ → Written
+abbrev written_in : List ℕ → ℕ → Result ℕ Refusal
 written_in fields lent = let e = entry_from fields in written_as (judge SingleLine e) (leb (0 + length_of e.map) lent) (0 + length_of e.map)
 
-write : {fields given : List ℕ} {lent number : ℕ} → cond (ltb (length fields) 10) 23 (refusal_written (written_in fields lent)) ≡ number
+write : {fields given : List ℕ} {lent number : ℕ} → cond (ltb (length fields) 10) 23 (refusal_in (written_in fields lent)) ≡ number
     → ((bytes : List ℕ) → cond (ltb (length fields) 10) bytes (log_as (written_in fields lent) bytes (pasted bytes 0 (bytes_of (entry_from fields)))) ≡ given ++ drop (length given) bytes)
     → Writes fields lent number given
 unfolding log_after written_at

@@ -1,12 +1,11 @@
 -- What a host is answered, and what its buffers then hold, by the definitions of a single line's listing and of a log's turns.
 use Rattle.listing.specs.LineText.{end_figure_count, end_line, last_line, longest_line, longest_log}
-use Rattle.std.specs.Prelude.{Bool, List, cond, length, ltb, ℕ, ◌++◌, ◌||◌, ◌≡◌, ◌≤◌}
+use Rattle.std.specs.Prelude.{Bool, List, None, Option, Some, cond, length, ltb, ℕ, ◌++◌, ◌||◌, ◌≡◌, ◌≤◌}
 use Rattle.step.specs.Listings.{figures_in, joined, lines_of, listed_turns, listing_of, listing_room}
 use Rattle.step.specs.Running.{last_in}
-use Rattle.step.specs.declared.running.Last.TheVariants.{Answered, NoEntry}
-use Rattle.step.specs.declared.running.Last.{Last}
+use Rattle.working.specs.Answers.{Answer}
 use Rattle.working.specs.Entries.{pasted}
-use Rattle.working.specs.Positions.{refusal_of}
+use Rattle.working.specs.Refusals.{refusal_in}
 use Rattle.working.specs.Sections.{fresh}
 use Rattle.working.specs.Turns.{single, turns_of}
 use Rattle.working.specs.declared.Table.TheVariants.{SingleLine}
@@ -50,10 +49,10 @@ FiguresInTheEnd = (log : List ℕ) → length log ≤ longest_log → last_line_
 -- ---- the last answer
 
 -- the number of a refusal, 0 where the entry is accepted and where there was none
-abbrev pub last_of : Last → ℕ
-last_of NoEntry = 0
-last_of (Answered a) = refusal_of a
+abbrev pub last_of : Option Answer → ℕ
+last_of None = 0
+last_of (Some a) = refusal_in a
 
 -- the number that answers a log's last entry
 abbrev pub last_answer_of : List ℕ → ℕ
-last_answer_of log = last_of (last_in NoEntry (turns_of single fresh log))
+last_answer_of log = last_of (last_in None (turns_of single fresh log))

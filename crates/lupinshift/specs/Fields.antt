@@ -1,8 +1,8 @@
 -- T-06: an entry written from its fields into lent bytes, and one read into fields. The map and the fields of an entry as ten numbers of 16 bits, in the order map, kind,
 -- station, time, view, class, asked, granted, sender, number.
 use Rattle.std.specs.Prelude.{List, cond, get_or, length, ltb, min, ℕ, ◌∷◌, ◌≡◌}
-use Rattle.working.specs.Entries.{log_after, pasted, read_at, refusal_written, values_of, written_at}
-use Rattle.working.specs.Refusals.{number_of}
+use Rattle.working.specs.Entries.{log_after, pasted, read_at, values_of, written_at}
+use Rattle.working.specs.Refusals.{number_of, refusal_in}
 use Rattle.working.specs.declared.Entry.{Entry}
 use Rattle.working.specs.declared.Read.TheVariants.{End, Refused, Whole}
 use Rattle.working.specs.declared.Read.{Read}
@@ -57,5 +57,5 @@ pub record ReadsEntry (bytes fields : List ℕ) (answer : ℕ) (after : List ℕ
 
 -- 23 where fewer than ten numbers are given; then 2, 3, 4 and 23 as the writer gives them
 pub record WritesEntry (fields bytes : List ℕ) (answer : ℕ) (after : List ℕ) : Type 0 where
-  pub answered : answer ≡ cond (ltb (length fields) field_count) (number_of BufferTooShort) (refusal_written (written_at SingleLine bytes 0 (entry_from fields)))
+  pub answered : answer ≡ cond (ltb (length fields) field_count) (number_of BufferTooShort) (refusal_in (written_at SingleLine bytes 0 (entry_from fields)))
   pub left : after ≡ cond (ltb (length fields) field_count) bytes (log_after SingleLine bytes 0 (entry_from fields))

@@ -1,13 +1,13 @@
 // What a host in C or Rust calls, by way of `lupinshift_c`. On a single line's log: its listing, whole or in blocks, its last line alone, as text and as figures, the answer to
 // its last entry, and how many of its entries are taken; where such a call is refused the answer is 0. On a single line's section as a position: a step, a shelf of named
 // positions, and entries as fields; there the answer is 0 or the number of the refusal. Slices of bytes and numbers only. No refused call alters a lent place.
+// Answers and refusals are numbers, and no type of ours: the C interface, where `lupinshift_c` hands each function on.
 #![tactic(auto)]
 
 ghost use Rattle.lupinshift.specs.Answers.{Ends, Figures, Lists, last_answer_of, last_of};
 ghost use Rattle.lupinshift.specs.State.{Begins, FillsOn};
 ghost use Rattle.std.specs.Prelude.{◌≡◌};
 ghost use Rattle.step.specs.Listings.{listing_room};
-ghost use Rattle.working.specs.Positions.{refusal_of};
 ghost use Rattle.working.specs.Sections.{fresh};
 ghost use Rattle.working.specs.Turns.{single, taken_in, turns_of};
 
@@ -15,13 +15,12 @@ mod entries;
 mod positions;
 mod state;
 
-use crate::state::{STATE_WORDS, copy, keep, listed_at, section_words};
+use crate::state::{STATE_WORDS, keep, listed_at, section_words};
 pub use entries::{lupin_entry_length, lupin_read_entry, lupin_write_entry};
 use listing::{END_FIGURES, LONGEST_LINE, LONGEST_LOG, end_figures};
 pub use positions::{lupin_fetch, lupin_step, lupin_store};
-use step::Last;
 use words::fresh_words;
-use working::Answer;
+use working::{Answer, Section, refusal_number};
 
 // The room that the listing of any log of so many bytes takes, and the longest line more: at most 25 bytes for each byte, and the last line.
 fn listing_room(len: usize) -> usize
@@ -41,7 +40,7 @@ pub fn lupin_list(log: &[u8], out: &mut [u8]) -> usize
     if out.len() < listing_room(log.len()) {
         return 0;
     }
-    step::list(log, out)
+    step::list::<Section>(log, out)
 }
 
 // The start of a log's listing in the words lent, and how many it takes, `STATE_WORDS`. The words behind them keep their values.
@@ -49,11 +48,10 @@ pub fn lupin_list(log: &[u8], out: &mut [u8]) -> usize
 pub fn lupin_begin(log: &[u8], words: &mut [u64]) -> usize
     ensures { Begins log.now words.old result words.new }
 {
-    if words.len() < STATE_WORDS {
+    let Some(state) = words.first_chunk_mut::<STATE_WORDS>() else {
         return 0;
-    }
-    let section = fresh_words();
-    keep(words, &section, step::start_of(log.len()));
+    };
+    keep(state, &fresh_words(), step::start_of(log.len()));
     STATE_WORDS
 }
 
@@ -63,13 +61,12 @@ pub fn lupin_begin(log: &[u8], words: &mut [u64]) -> usize
 pub fn lupin_fill(words: &mut [u64], log: &[u8], out: &mut [u8]) -> usize
     ensures { FillsOn words.old log.now out.old result words.new out.new }
 {
-    if words.len() < STATE_WORDS {
+    let Some(state) = words.first_chunk_mut::<STATE_WORDS>() else {
         return 0;
-    }
-    let mut section = section_words(words);
-    let put = step::fill(&mut section, listed_at(words), log, out);
-    let listed = put.listed;
-    keep(words, &section, listed);
+    };
+    let mut section = section_words(state);
+    let put = step::fill::<Section>(&mut section, listed_at(state), log, out);
+    keep(state, &section, put.listed);
     put.behind
 }
 
@@ -98,30 +95,17 @@ pub fn lupin_figures(log: &[u8], figures: &mut [u64]) -> usize
     let end = step::ended(log);
     let section = end.section;
     let last_line = end_figures(end.entries, end.accepted, section);
-    copy(&last_line, 0, figures, 0, END_FIGURES);
+    figures[..END_FIGURES].copy_from_slice(&last_line);
     END_FIGURES
 }
 
-// The number of a refusal, and 0 where the answer is none.
-pub(crate) fn refusal_of(answer: Answer) -> u32
-    ensures { result ≡ refusal_of answer }
-{
-    match answer {
-        Answer::Refused(why) => why.number() as u32,
-        Answer::Accepted {
-            form: _,
-            forms: _,
-            speed: _,
-        } => 0,
-    }
-}
-
-fn last_of(last: Last) -> u32
+// The number of a run's last answer: of its refusal, or 0, as where the run had no entry.
+fn last_of(last: Option<Answer>) -> u32
     ensures { result ≡ last_of last }
 {
     match last {
-        Last::NoEntry => 0,
-        Last::Answered(answer) => refusal_of(answer),
+        None => 0,
+        Some(answer) => u32::from(refusal_number(answer)),
     }
 }
 

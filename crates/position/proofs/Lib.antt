@@ -1,2 +1,3 @@
 pub mod Copies
+pub mod HighFirst
 pub mod Places

@@ -1,7 +1,10 @@
 -- The places of a position: how many begin with a kind, which vehicle each says, and a vehicle put behind those that are there.
 -- Assumes nothing.
-use Prim.Native.Nat.{suc, zero, ℕ, ◌*◌, ◌+◌, ◌-◌, ◌<◌, ◌≤◌}
+use Prim.Native.Nat.{min, suc, zero, ℕ, ◌*◌, ◌+◌, ◌-◌, ◌/◌, ◌<◌, ◌≤◌}
 use Rattle.position.proofs.Copies.{paste_behind}
+use Rattle.position.specs.Reading.{vehicles_from}
+use Rattle.std.proofs.Common.{None, Option, Some}
+use Rattle.std.specs.Option.{MatchOption, unwrap_or}
 use Rattle.working.proofs.invariant.Made.{vehicles_with}
 use Rattle.working.specs.Entries.{pasted}
 use Rattle.working.specs.Positions.{byte_at, counts_bytes, desk_bytes, places_bytes, section_at, vehicle_bytes, vehicle_in, vehicles_in}
@@ -83,22 +86,55 @@ passed_all p i full h =
     let left : length (vehicles_in (24 - i) (drop (10 * i) p)) ≡ 0 = ap (λ n. length (vehicles_in n (drop (10 * i) p))) none in
     sym (h.so_far ∙ ap (λ n. i + n) left ∙ add-zero i)
 
-pub vehicle_there : (n i : ℕ) (p : List ℕ) → i < length (vehicles_in n p) → get_or (vehicles_in n p) i unused ≡ vehicle_in (take 10 (drop (10 * i) p))
-unfolding vehicles_in
+-- up to a place before which none begins with a zero
+passed_to : (p : List ℕ) (i : ℕ) → i ≤ 24 → ((k : ℕ) → k < i → byte_at p (10 * k) ≡ 0 → ⊥) → Passed p i
+passed_to p zero within kinds = passed_none p
+passed_to p (suc i) within kinds =
+    let on : i + 1 ≡ suc i = omega arith in
+    rw on at (passed_more p i (omega arith) (kinds i (omega arith)) (passed_to p i (omega arith) (λ k h. kinds k (omega arith))))
+
+-- the first place that begins with a zero, else 24
+pub first_ended : (p : List ℕ) (r : Option ℕ) (n : ℕ)
+    → MatchOption r ((k : ℕ) → 0 ≤ k → k < 24 → byte_at p (10 * k) ≡ 0 → ⊥)
+    (λ i. (0 ≤ i) × (i < 24) × (byte_at p (10 * i) ≡ 0) × ((k : ℕ) → 0 ≤ k → k < i → byte_at p (10 * k) ≡ 0 → ⊥))
+    → n ≡ unwrap_or r 24 → (n ≡ length (vehicles_in 24 p)) × (n ≤ 24)
+first_ended p None n kinds is =
+    (is ∙ passed_all p 24 (omega arith) (passed_to p 24 (omega arith) (λ k h. kinds k (omega arith) h)), omega (arith, is))
+first_ended p (Some i) n met is =
+    (is ∙ passed_end p i met.2 (passed_to p i (omega arith) (λ k h. met.3 k (omega arith) h)), omega (arith, is, met.1))
+
+pub vehicle_there : (n i : ℕ) (p : List ℕ) → i < n → get_or (vehicles_from n p) i unused ≡ vehicle_in (take 10 (drop (10 * i) p))
+unfolding vehicles_from
 vehicle_there zero i p h = absurd (omega arith)
-vehicle_there (suc n) i p h = by (eqb (byte_at p 0) 0) i h (λ k. vehicle_there n k (drop 10 p))
+vehicle_there (suc n) zero p h = refl
+vehicle_there (suc n) (suc i) p h =
+    let on : 10 + 10 * i ≡ 10 * suc i = omega arith in
+    vehicle_there n i (drop 10 p) (omega arith) ∙ ap (λ l. vehicle_in (take 10 l)) (drop-drop (10 * i) 10 p ∙ ap (λ k. drop k p) on)
+
+pub length-vehicles_from : (n : ℕ) (p : List ℕ) → length (vehicles_from n p) ≡ n
+unfolding vehicles_from
+length-vehicles_from zero p = refl
+length-vehicles_from (suc n) p = ap suc (length-vehicles_from n (drop 10 p))
+
+-- the vehicles present are those that as many places say
+present_from : (n : ℕ) (p : List ℕ) → vehicles_from (length (vehicles_in n p)) p ≡ vehicles_in n p
+unfolding vehicles_in vehicles_from
+present_from zero p = refl
+present_from (suc n) p = by (eqb (byte_at p 0) 0) (present_from n (drop 10 p))
   where
     rest : List Vehicle
     rest = vehicles_in n (drop 10 p)
 
-    by : (none : Bool) (i : ℕ) → i < length (cond none [] (vehicle_in (take 10 p) ∷ rest))
-        → ((k : ℕ) → k < length rest → get_or rest k unused ≡ vehicle_in (take 10 (drop (10 * k) (drop 10 p))))
-        → get_or (cond none [] (vehicle_in (take 10 p) ∷ rest)) i unused ≡ vehicle_in (take 10 (drop (10 * i) p))
-    by true i h later = absurd (omega arith)
-    by false zero h later = refl
-    by false (suc i) h later =
-        let on : 10 + 10 * i ≡ 10 * suc i = omega arith in
-        later i (omega arith) ∙ ap (λ l. vehicle_in (take 10 l)) (drop-drop (10 * i) 10 p ∙ ap (λ k. drop k p) on)
+    by : (none : Bool) → vehicles_from (length rest) (drop 10 p) ≡ rest
+        → vehicles_from (length (cond none [] (vehicle_in (take 10 p) ∷ rest))) p ≡ cond none [] (vehicle_in (take 10 p) ∷ rest)
+    by true h = refl
+    by false h = ap (vehicle_in (take 10 p) ∷◌) h
+
+-- of them there are places and bytes enough in a position
+pub all_present : (p : List ℕ) → length p ≡ 281 → vehicles_from (min (min (length (vehicles_in 24 p)) 24) (length p / 10)) p ≡ vehicles_in 24 p
+all_present p long =
+    let all : min (min (length (vehicles_in 24 p)) 24) (length p / 10) ≡ length (vehicles_in 24 p) = omega (arith, long, few_vehicles 24 p) in
+    rw all (present_from 24 p)
 
 -- ---- a vehicle put
 

@@ -2,8 +2,8 @@
 ghost use Rattle.std.specs.Prelude.{◌≡◌};
 ghost use Rattle.working.specs.Positions.{counts_bytes, counts_in, desk_bytes, desk_in, interval_bytes, interval_of};
 
-use crate::numbers::{four, in_four, in_two, one_if, two};
-use working::{Clears, Counts, Desk, Interval};
+use crate::numbers::bytes_at;
+use working::{Clears, Counts, Desk};
 
 // The bytes of the counts, and of a desk.
 pub const COUNTS: usize = 12;
@@ -11,58 +11,58 @@ pub const COUNTS: usize = 12;
 pub const DESK: usize = 14;
 
 // Entries refused for A, for B, and of no station.
+#[tactic(auto, using(crate::proofs::HighFirst::four_there), unfolding(working::specs::Positions::counts_in))]
 pub fn counts_in(bytes: &[u8; COUNTS]) -> Counts
     ensures { result ≡ counts_in bytes.now }
 {
     Counts {
-        a: four(bytes[0], bytes[1], bytes[2], bytes[3]),
-        b: four(bytes[4], bytes[5], bytes[6], bytes[7]),
-        none: four(bytes[8], bytes[9], bytes[10], bytes[11]),
+        a: u32::from_be_bytes(bytes_at(bytes, 0)),
+        b: u32::from_be_bytes(bytes_at(bytes, 4)),
+        none: u32::from_be_bytes(bytes_at(bytes, 8)),
     }
 }
 
+#[tactic(auto, using(crate::proofs::HighFirst::four_bytes), unfolding(working::specs::Positions::counts_bytes))]
 pub fn counts_bytes(counts: Counts) -> [u8; COUNTS]
     ensures { result ≡ counts_bytes counts }
 {
-    let a = in_four(counts.a);
-    let b = in_four(counts.b);
-    let none = in_four(counts.none);
+    let a = counts.a.to_be_bytes();
+    let b = counts.b.to_be_bytes();
+    let none = counts.none.to_be_bytes();
     [
         a[0], a[1], a[2], a[3], b[0], b[1], b[2], b[3], none[0], none[1], none[2], none[3],
     ]
 }
 
-// The interval: not running where its flag is not 1.
-pub fn interval_of(running: u8, minute: u16) -> Interval
+// The interval: not running where its flag is not 1. Flag and minute are bytes of a position (T-06).
+pub fn interval_of(running: u8, minute: u16) -> Option<u16>
     ensures { result ≡ interval_of running minute }
 {
-    if running == 1 {
-        return Interval::Since(minute);
-    }
-    Interval::Stopped
+    (running == 1).then_some(minute)
 }
 
 // Whether the interval is running, and its minute.
-pub fn interval_bytes(interval: Interval) -> [u8; 3]
+pub fn interval_bytes(interval: Option<u16>) -> [u8; 3]
     ensures { result ≡ interval_bytes interval }
 {
     match interval {
-        Interval::Stopped => [0, 0, 0],
-        Interval::Since(minute) => {
-            let since = in_two(minute);
+        None => [0, 0, 0],
+        Some(minute) => {
+            let since = minute.to_be_bytes();
             [1, since[0], since[1]]
         }
     }
 }
 
 // The desk that fourteen bytes say.
+#[tactic(auto, using(crate::proofs::HighFirst::two_there), unfolding(working::specs::Positions::desk_in))]
 pub fn desk_in(bytes: &[u8; DESK]) -> Desk
     ensures { result ≡ desk_in bytes.now }
 {
-    let minute = two(bytes[6], bytes[7]);
+    let minute = u16::from_be_bytes(bytes_at(bytes, 6));
     Desk {
-        clock: two(bytes[0], bytes[1]),
-        last: two(bytes[2], bytes[3]),
+        clock: u16::from_be_bytes(bytes_at(bytes, 0)),
+        last: u16::from_be_bytes(bytes_at(bytes, 2)),
         sent: bytes[4],
         interval: interval_of(bytes[5], minute),
         out: bytes[8] == 1,
@@ -77,14 +77,15 @@ pub fn desk_in(bytes: &[u8; DESK]) -> Desk
 }
 
 // The fourteen bytes of a desk.
+#[tactic(auto, using(crate::proofs::HighFirst::two_bytes, crate::proofs::HighFirst::flag_byte), unfolding(working::specs::Positions::desk_bytes))]
 pub fn desk_bytes(desk: Desk) -> [u8; DESK]
     ensures { result ≡ desk_bytes desk }
 {
     let interval = desk.interval;
     let running = interval_bytes(interval);
     let clears = desk.clears;
-    let clock = in_two(desk.clock);
-    let last = in_two(desk.last);
+    let clock = desk.clock.to_be_bytes();
+    let last = desk.last.to_be_bytes();
     [
         clock[0],
         clock[1],
@@ -94,7 +95,7 @@ pub fn desk_bytes(desk: Desk) -> [u8; DESK]
         running[0],
         running[1],
         running[2],
-        one_if(desk.out),
+        u8::from(desk.out),
         desk.guest,
         clears.asked,
         clears.holds,

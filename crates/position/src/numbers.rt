@@ -1,50 +1,42 @@
-// Numbers as bytes, high byte first, and bytes put at a place.
-ghost use Rattle.std.specs.Prelude.{length, ◌*◌, ◌+◌, ◌≡◌, ◌≤◌};
+// Numbers as bytes, high byte first, and bytes read and put at a place.
+ghost use Rattle.std.specs.Prelude.{drop, length, take, ◌*◌, ◌+◌, ◌≡◌, ◌≤◌};
 ghost use Rattle.working.specs.Entries.{pasted};
-ghost use Rattle.working.specs.Positions.{in_four, in_two, same_bytes};
+ghost use Rattle.working.specs.Positions.{in_two, same_bytes};
 ghost use Rattle.working.specs.WellMade.{one_if};
+
+// `one_if`, `two`, `in_two` and `same_bytes` stay beside the methods of std that they call: they are public promises in the definitions' words, for whoever writes positions,
+// and wrong programs of theirs stand in edits/position.
 
 // 1 where it holds, else 0.
 pub fn one_if(holds: bool) -> u8
     ensures { result ≡ one_if holds }
 {
-    if holds { 1 } else { 0 }
+    u8::from(holds)
 }
 
 // The number that two bytes stand for.
 pub fn two(high: u8, low: u8) -> u16
     ensures { result ≡ high * 256 + low }
 {
-    high as u16 * 256 + low as u16
-}
-
-// The number that four bytes stand for.
-pub(crate) fn four(highest: u8, high: u8, low: u8, lowest: u8) -> u32
-    ensures { result ≡ (highest * 256 + high) * 65536 + (low * 256 + lowest) }
-{
-    two(highest, high) as u32 * 65536 + two(low, lowest) as u32
+    u16::from_be_bytes([high, low])
 }
 
 // A number in two bytes.
 pub fn in_two(n: u16) -> [u8; 2]
     ensures { result ≡ in_two n }
 {
-    [(n / 256) as u8, (n % 256) as u8]
+    n.to_be_bytes()
 }
 
-// A count in four bytes.
-pub(crate) fn in_four(n: u32) -> [u8; 4]
-    ensures { result ≡ in_four n }
+// So many bytes, the first of them at a place.
+pub(crate) fn bytes_at<const N: usize>(bytes: &[u8], at: usize) -> [u8; N]
+    requires { at + N ≤ length bytes.now }
+    ensures { result ≡ take N (drop at bytes.now) }
 {
-    [
-        (n / 16777216) as u8,
-        (n / 65536 % 256) as u8,
-        (n / 256 % 256) as u8,
-        (n % 256) as u8,
-    ]
+    *bytes[at..].first_chunk().unwrap()
 }
 
-// Bytes put one behind the other, the first of them at a place.
+// Bytes put one behind the other, the first of them at a place: `copy_from_slice` with the end reckoned, and what it leaves said as `pasted`, for four callers.
 pub(crate) fn put_bytes(room: &mut [u8], at: usize, bytes: &[u8])
     requires { at + length bytes.now ≤ length room.old }
     ensures { room.new ≡ pasted room.old at bytes.now }
@@ -53,25 +45,9 @@ pub(crate) fn put_bytes(room: &mut [u8], at: usize, bytes: &[u8])
 }
 
 // Whether two slices hold the same bytes.
+#[tactic(auto, using(crate::proofs::Copies::pointwise_same))]
 pub fn same_bytes(a: &[u8], b: &[u8]) -> bool
     ensures { result ≡ same_bytes a.now b.now }
 {
-    if a.len() != b.len() {
-        return false;
-    }
-    let mut same = true;
-    let mut i = 0;
-    while i < a.len() {
-        same = same & (a[i] == b[i]);
-        i += 1;
-    }
-    same
-}
-
-// The same of slices of one length, in two parts: the compiler knows the length of neither, and so compares many bytes at a time.
-pub(crate) fn same_in_parts(a: &[u8], b: &[u8], at: usize) -> bool
-    requires { (at ≤ length a.now) × (length a.now ≡ length b.now) }
-    ensures { result ≡ same_bytes a.now b.now }
-{
-    same_bytes(&a[..at], &b[..at]) & same_bytes(&a[at..], &b[at..])
+    a == b
 }

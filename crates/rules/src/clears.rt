@@ -4,14 +4,7 @@ ghost use Rattle.working.specs.Effects.{brought_clears, clears_left, granted_in,
 
 use working::{Clears, Desk, Movement};
 
-// One less, and not below 0.
-pub fn lowered(n: u8) -> u8
-    ensures { result ≡ n - 1 }
-{
-    if 0 < n { n - 1 } else { 0 }
-}
-
-// `n` where it is above 0, else what stood there.
+// `n` where it is above 0, else what stood there. No method of std says it; `max` would keep the larger.
 fn if_any(n: u8, before: u8) -> u8
     ensures { result ≡ if_any n before }
 {
@@ -24,28 +17,28 @@ pub fn return_clears(c: Clears, granted: u8) -> Clears
 {
     Clears {
         asked: 0,
-        holds: c.holds,
         owes: if_any(granted, c.owes),
+        ..c
     }
 }
 
-// The line clears that a TRAIN leaves held: one less, and none where it is endorsed as the last.
+// The line clears that a TRAIN leaves held: one less, and none where it is endorsed as the last. `endorsed` is the definition's own mark here and below.
 fn clears_left(endorsed: bool, holds: u8) -> u8
     ensures { result ≡ clears_left endorsed holds }
 {
-    if endorsed { 0 } else { lowered(holds) }
+    if endorsed { 0 } else { holds.saturating_sub(1) }
 }
 
-// A TRAIN leaves on one of the line clears held, and none is left where it is endorsed as the last; where it takes a reply along, the enquiry is answered and what it
-// grants is owed.
+// A TRAIN leaves on one of the line clears held, and none is left where it is endorsed as the last; where it takes a reply along, that does what a RETURN's does.
 pub fn train_clears(endorsed: bool, c: Clears, granted: u8) -> Clears
     ensures { result ≡ train_clears endorsed c granted }
 {
-    let mut after = c;
-    after.holds = clears_left(endorsed, c.holds);
+    let after = Clears {
+        holds: clears_left(endorsed, c.holds),
+        ..c
+    };
     if 0 < granted {
-        after.asked = 0;
-        after.owes = granted;
+        return return_clears(after, granted);
     }
     after
 }
@@ -58,7 +51,7 @@ pub fn train_movement(endorsed: bool, holds: u8, asked: u8, granted: u8) -> Move
         return Movement::LastTrain {
             asked,
             granted,
-            given_up: lowered(holds),
+            given_up: holds.saturating_sub(1),
         };
     }
     Movement::Train { asked, granted }
@@ -68,9 +61,7 @@ pub fn train_movement(endorsed: bool, holds: u8, asked: u8, granted: u8) -> Move
 pub fn opened_clears(c: Clears, asked: u8) -> Clears
     ensures { result ≡ opened_clears c asked }
 {
-    let mut after = c;
-    after.asked = asked;
-    after
+    Clears { asked, ..c }
 }
 
 // The other station's RETURN or TRAIN brings an enquiry where it asks, and `owes` is what the station then owes.
@@ -79,8 +70,8 @@ pub fn brought_clears(c: Clears, asked: u8, owes: u8) -> Clears
 {
     Clears {
         asked: if_any(asked, c.asked),
-        holds: c.holds,
         owes,
+        ..c
     }
 }
 
@@ -89,15 +80,10 @@ pub fn granted_in(movement: Movement) -> u8
     ensures { result ≡ granted_in movement }
 {
     match movement {
-        Movement::Open { asked: _ } => 0,
-        Movement::Through => 0,
-        Movement::Return { asked: _, granted } => granted,
-        Movement::Train { asked: _, granted } => granted,
-        Movement::LastTrain {
-            asked: _,
-            granted,
-            given_up: _,
-        } => granted,
+        Movement::Open { .. } | Movement::Through => 0,
+        Movement::Return { granted, .. }
+        | Movement::Train { granted, .. }
+        | Movement::LastTrain { granted, .. } => granted,
     }
 }
 

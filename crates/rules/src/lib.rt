@@ -7,7 +7,7 @@ mod orders;
 mod reasons;
 
 pub use clears::{
-    brought_clears, granted_in, lowered, opened_clears, replied_desk, return_clears, train_clears,
+    brought_clears, granted_in, opened_clears, replied_desk, return_clears, train_clears,
     train_movement,
 };
 pub use orders::{

@@ -1,12 +1,12 @@
 // What a driver leaves with: the vehicle's record, its speed and its forms.
-ghost use Rattle.std.specs.Prelude.{cond, ◌≡◌};
+ghost use Rattle.std.specs.Prelude.{◌≡◌};
 ghost use Rattle.working.specs.Effects.{clear_forms, follow_speed, open_speed, train_speed, vehicle_for, way_form};
 ghost use Rattle.working.specs.declared.Speed.TheVariants.{Both};
 
 use section::{other, station_number};
 use working::{Movement, Speed, Station, Vehicle, View};
 
-// The forms of an OPEN, and of a THROUGH.
+// The forms of an OPEN, and of a THROUGH. Forms are document 01's sum of numbers, as hosts and listings have it.
 pub const OPEN_FORMS: u16 = 7;
 
 pub const THROUGH_FORMS: u16 = 1;
@@ -16,12 +16,12 @@ pub fn vehicle_for(at: Station, form: u16, movement: Movement, class: u8) -> Veh
     ensures { result ≡ vehicle_for at form movement class }
 {
     Vehicle {
-        movement: movement,
+        movement,
         sender: station_number(at),
-        form: form,
+        form,
         heading: station_number(other(at)),
         met: false,
-        class: class,
+        class,
     }
 }
 
@@ -39,13 +39,13 @@ pub fn tb602_speed(view: View) -> Speed
     }
 }
 
-// At most so many km/h where the track is straight and the view clear, and at most so many elsewhere.
+// At most so many km/h where the track is straight and the view clear, and at most so many elsewhere. The case itself takes four lines where each view has one.
 fn both(straight: u8, elsewhere: u8) -> Speed
     ensures { result ≡ Both straight elsewhere }
 {
     Speed::Both {
-        straight: straight,
-        elsewhere: elsewhere,
+        straight,
+        elsewhere,
     }
 }
 
@@ -83,20 +83,13 @@ fn way_form(at: Station) -> u16
     }
 }
 
-// One form or another.
-fn form_by(test: bool, form: u16, otherwise: u16) -> u16
-    ensures { result ≡ cond test form otherwise }
-{
-    if test { form } else { otherwise }
-}
-
-// The forms of a RETURN or a TRAIN.
+// The forms of a RETURN or a TRAIN: a sum of document 01's numbers, as the answer gives them.
 pub fn clear_forms(at: Station, booked: bool, asked: u8, granted: u8) -> u16
     ensures { result ≡ clear_forms at booked asked granted }
 {
     let way = way_form(at);
-    let speed = form_by(booked, 128, 64);
-    let enquiry = form_by(0 < asked, 2, 0);
-    let reply = form_by(0 < granted, 4, 0);
+    let speed = if booked { 128 } else { 64 };
+    let enquiry = if 0 < asked { 2 } else { 0 };
+    let reply = if 0 < granted { 4 } else { 0 };
     way + 32 + speed + enquiry + reply
 }

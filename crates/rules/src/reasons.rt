@@ -5,16 +5,13 @@ ghost use Rattle.working.specs.Reasons.{begin_tests, is_under, last_tests, may_e
 ghost use Rattle.working.specs.Refusals.{Test, first_of};
 
 use section::{is_named, is_open_or_through, station_number};
-use working::{Clears, Desk, Interval, Refusal, Station, Vehicle, Verdict};
+use working::{Clears, Desk, Refusal, Station, Vehicle, Verdict};
 
 // Whether the interval is running, under 30 minutes. The sum is taken in 32 bits: an interval may begin in the last minutes of the clock.
-fn is_under(interval: Interval, time: u16) -> bool
+fn is_under(interval: Option<u16>, time: u16) -> bool
     ensures { result ≡ is_under interval time }
 {
-    match interval {
-        Interval::Stopped => false,
-        Interval::Since(minute) => (time as u32) < (minute as u32) + (Desk::INTERVAL as u32),
-    }
+    interval.is_some_and(|minute| u32::from(time) < u32::from(minute) + u32::from(Desk::INTERVAL))
 }
 
 // 7 and 9, which every act of a station is put to first.
@@ -22,39 +19,36 @@ pub fn station_verdict(force: bool, clock: u16, time: u16) -> Verdict
     ensures { result ≡ first_of (station_tests force clock time) }
 {
     if !force {
-        return Verdict::Refused(Refusal::NotInForce);
+        return Err(Refusal::NotInForce);
     }
     if time < clock {
-        return Verdict::Refused(Refusal::BeforeClock);
+        return Err(Refusal::BeforeClock);
     }
-    Verdict::Allowed
+    Ok(())
 }
 
 // 17 to 19, which every departure is put to last, by how many count: of a single line the departures, of a double line the trains on its line.
-fn last_verdict(counted: u8, last: u16, interval: Interval, time: u16) -> Verdict
+fn last_verdict(counted: u8, last: u16, interval: Option<u16>, time: u16) -> Verdict
     ensures { result ≡ first_of (last_tests counted last interval time) }
 {
     if Desk::MOST_SENT <= counted {
-        return Verdict::Refused(Refusal::TwelveSent);
+        return Err(Refusal::TwelveSent);
     }
     if Desk::LAST_FORM <= last {
-        return Verdict::Refused(Refusal::FormsUsed);
+        return Err(Refusal::FormsUsed);
     }
     if is_under(interval, time) {
-        return Verdict::Refused(Refusal::IntervalRunning);
+        return Err(Refusal::IntervalRunning);
     }
-    Verdict::Allowed
+    Ok(())
 }
 
 // What a departure's own tests come to, then 17 to 19.
 pub fn departure_verdict(d: Desk, time: u16, own: Verdict) -> Verdict
     ensures { (tests : List Test) → own ≡ first_of tests → result ≡ first_of (tests ++ last_tests d.sent d.last d.interval time) }
 {
-    if let Verdict::Refused(why) = own {
-        return Verdict::Refused(why);
-    }
-    let interval = d.interval;
-    last_verdict(d.sent, d.last, interval, time)
+    own?;
+    last_verdict(d.sent, d.last, d.interval, time)
 }
 
 // OPEN and THROUGH.
@@ -62,24 +56,20 @@ pub fn open_verdict(d: Desk) -> Verdict
     ensures { result ≡ first_of (open_tests d) }
 {
     let guest = d.guest;
-    let Clears {
-        asked: _,
-        holds,
-        owes,
-    } = d.clears;
+    let Clears { holds, owes, .. } = d.clears;
     if d.out {
-        return Verdict::Refused(Refusal::OpenerAway);
+        return Err(Refusal::OpenerAway);
     }
     if 0 < holds {
-        return Verdict::Refused(Refusal::HoldsLineClear);
+        return Err(Refusal::HoldsLineClear);
     }
     if 0 < owes {
-        return Verdict::Refused(Refusal::OwesLineClear);
+        return Err(Refusal::OwesLineClear);
     }
     if 0 < guest {
-        return Verdict::Refused(Refusal::GuestHere);
+        return Err(Refusal::GuestHere);
     }
-    Verdict::Allowed
+    Ok(())
 }
 
 // RETURN. Line clears that are held are no reason: no list of steps from fresh has them beside a guest.
@@ -89,12 +79,12 @@ pub fn return_verdict(d: Desk, granted: u8) -> Verdict
     let guest = d.guest;
     let asked = d.clears.asked;
     if guest == 0 {
-        return Verdict::Refused(Refusal::NoGuest);
+        return Err(Refusal::NoGuest);
     }
     if asked < granted {
-        return Verdict::Refused(Refusal::GrantNotAllowed);
+        return Err(Refusal::GrantNotAllowed);
     }
-    Verdict::Allowed
+    Ok(())
 }
 
 pub fn train_verdict(d: Desk, granted: u8) -> Verdict
@@ -102,23 +92,22 @@ pub fn train_verdict(d: Desk, granted: u8) -> Verdict
 {
     let Clears { asked, holds, owes } = d.clears;
     if holds == 0 {
-        return Verdict::Refused(Refusal::NoLineClear);
+        return Err(Refusal::NoLineClear);
     }
     if (asked < granted) | ((0 < granted) & (0 < owes)) {
-        return Verdict::Refused(Refusal::GrantNotAllowed);
+        return Err(Refusal::GrantNotAllowed);
     }
-    Verdict::Allowed
+    Ok(())
 }
 
-// A station's own must be OPEN or THROUGH, unmet or heading to it; the other's must head to it.
+// A station's own must be OPEN or THROUGH, unmet or heading to it; the other's must head to it. A vehicle's numbers may be no station's, so that numbers are compared.
 fn may_enter(at: Station, v: Vehicle) -> bool
     ensures { result ≡ may_enter at v }
 {
     let number = station_number(at);
-    let movement = v.movement;
     let here = v.heading == number;
     if v.sender == number {
-        is_open_or_through(movement) & (!v.met | here)
+        is_open_or_through(v.movement) & (!v.met | here)
     } else {
         here
     }
@@ -129,31 +118,31 @@ pub fn receive_verdict(at: Station, sender: Station, form: u16, nearest: Vehicle
     ensures { result ≡ first_of (receive_tests at sender form nearest) }
 {
     if !is_named(sender, form, nearest) {
-        return Verdict::Refused(Refusal::NotNearest);
+        return Err(Refusal::NotNearest);
     }
     if !may_enter(at, nearest) {
-        return Verdict::Refused(Refusal::MayNotEnter);
+        return Err(Refusal::MayNotEnter);
     }
-    Verdict::Allowed
+    Ok(())
 }
 
 pub fn begin_verdict(force: bool) -> Verdict
     ensures { result ≡ first_of (begin_tests force) }
 {
     if force {
-        return Verdict::Refused(Refusal::AlreadyInForce);
+        return Err(Refusal::AlreadyInForce);
     }
-    Verdict::Allowed
+    Ok(())
 }
 
 pub fn resume_verdict(force: bool, present: usize) -> Verdict
     ensures { result ≡ first_of (resume_tests force present) }
 {
     if !force {
-        return Verdict::Refused(Refusal::NotInForce);
+        return Err(Refusal::NotInForce);
     }
     if 0 < present {
-        return Verdict::Refused(Refusal::VehiclePresent);
+        return Err(Refusal::VehiclePresent);
     }
-    Verdict::Allowed
+    Ok(())
 }

@@ -7,7 +7,7 @@ use Rattle.working.specs.WellMade.{same_form}
 use Rattle.working.specs.declared.Vehicle.{Vehicle}
 use borrow.Author.Tests.{eq-eqb, ne_eqb}
 use lib.Dec.{eqb}
-use lib.ListN.{get_or, get_or-replicate, length, length-set, replicate, set}
+use lib.ListN.{get_or, length, length-set, set}
 use lib.Seq.{get_or-set_other}
 use mathlib.Core.Bool.{Bool, and-false, false, not, true, ◌&&◌}
 use mathlib.Core.List.{List, [], ◌∷◌}
@@ -41,17 +41,6 @@ lacks-put : (n m : ℕ) (l : List ℕ) (k : ℕ) → k < length l → (get_or l 
 lacks-put n m [] k less other = absurd (omega arith)
 lacks-put n m (a ∷ l) zero less other = rw (ne_eqb a n other)
 lacks-put n m (a ∷ l) (suc k) less other = ap (not (eqb a n) &&◌) (lacks-put n m l k (omega arith) other) ∙ swapped (not (eqb a n)) (not (eqb m n)) (lacks n l)
-
-lacks_none : (n k : ℕ) → n < no_key → lacks n (replicate k no_key) ≡ true
-lacks_none n zero less = refl
-lacks_none n (suc k) less = rw (ne_eqb no_key n (omega arith)) (lacks_none n k less)
-
-pub none_noted : (i : ℕ) → i ≤ 24 → Noted [] (replicate 24 no_key) i
-none_noted i most = record {
-  long = refl;
-  unkeyed = λ k less. get_or-replicate 24 k no_key 0 (omega arith);
-  noted = λ v n keyed. lacks_none n 24 keyed.some;
-}
 
 pub one_noted : {l : List Vehicle} {keys : List ℕ} {i : ℕ} (w : Vehicle) (m : ℕ) → Noted l keys i → 0 < i → i ≤ 24 → Keyed w m → Noted (w ∷ l) (set keys (i - 1) m) (i - 1)
 one_noted {l} {keys} {i} w m so_far some most keyed = record {

@@ -4,7 +4,7 @@ use Rattle.section.specs.declared.made.Tally.{Tally}
 use Rattle.std.specs.Prelude.{Bool, List, [], cond, eqb, leb, not, true, ℕ, ◌&&◌, ◌*◌, ◌++◌, ◌+◌, ◌<◌, ◌∷◌, ◌≡◌}
 use Rattle.working.specs.Entries.{every}
 use Rattle.working.specs.WellMade.{all, count_from, is_blank, is_from, movement_tests, numbered, one_if, ordered, same_form, shaped}
-use Rattle.working.specs.WellMade.{desk_figures, figure_tests, not_later, zero_tests}
+use Rattle.working.specs.WellMade.{desk_figures, figure_tests, not_later}
 use Rattle.working.specs.declared.Desk.{Desk}
 use Rattle.working.specs.declared.Movement.{Movement}
 use Rattle.working.specs.declared.Vehicle.{Vehicle}
@@ -78,7 +78,3 @@ pub record Room (s : Survey) : Type 0 where
 
 abbrev pub desk_made_with : Desk → Tally → Bool
 desk_made_with d t = every (figure_tests (desk_figures d) ++ leb t.count d.sent ∷ not_later d.interval d.clock ∷ t.numbered ∷ [])
-
--- "all else is zero or none"
-abbrev pub all_zero : List ℕ → Bool
-all_zero l = every (zero_tests l)

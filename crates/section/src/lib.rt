@@ -8,4 +8,4 @@ mod vehicles;
 
 pub use made::{is_not_later, well_made};
 pub use stations::{other, station_number, station_of};
-pub use vehicles::{fitting, is_named, is_open_or_through};
+pub use vehicles::{is_named, is_open_or_through};

@@ -1,11 +1,11 @@
 // The test that a section is well made: one pass over the vehicles present, one over the unused places, the form numbers, then the desks.
 // The passes go from B's end to A's, as the definitions do, and pass no place by: a section is nearly always well made.
-ghost use Rattle.section.specs.Made.{Keyed, Room, all_blank, all_zero, counted, desk_made_with, lacks, seen, survey_of};
-ghost use Rattle.std.specs.Prelude.{drop, take, ◌<◌, ◌≡◌, ◌≤◌};
-ghost use Rattle.working.specs.WellMade.{differ, is_fresh_desk, not_later, one_if, well_made};
+ghost use Rattle.section.specs.Made.{Keyed, Room, all_blank, counted, desk_made_with, lacks, seen, survey_of};
+ghost use Rattle.std.specs.Prelude.{length, ◌<◌, ◌≡◌, ◌≤◌};
+ghost use Rattle.working.specs.WellMade.{differ, is_fresh_desk, not_later, well_made};
 
 use crate::vehicles::{is_blank, is_shaped};
-use working::{Desk, Interval, Section, Vehicle};
+use working::{Desk, Section, Vehicle};
 
 // No vehicle's key: above those of all senders and form numbers.
 const NO_KEY: u32 = 16777216;
@@ -27,12 +27,6 @@ pub(crate) struct Survey {
     pub b: Tally,
 }
 
-fn one_if(test: bool) -> u8
-    ensures { result ≡ one_if test }
-{
-    if test { 1 } else { 0 }
-}
-
 // The tally of station number `sender` with one more vehicle.
 fn counted(sender: u8, last: u16, v: Vehicle, t: Tally) -> Tally
     requires { t.count < 24 }
@@ -40,7 +34,7 @@ fn counted(sender: u8, last: u16, v: Vehicle, t: Tally) -> Tally
 {
     let sent = v.sender == sender;
     Tally {
-        count: one_if(sent) + t.count,
+        count: u8::from(sent) + t.count,
         numbered: (!sent | ((1 <= v.form) & (v.form <= last))) & t.numbered,
     }
 }
@@ -64,9 +58,9 @@ fn seen(v: Vehicle, last_a: u16, last_b: u16, s: Survey) -> Survey
 }
 
 // The one pass over the vehicles present.
-fn survey_of(places: [Vehicle; Section::PLACES], len: usize, last_a: u16, last_b: u16) -> Survey
-    requires { len ≤ 24 }
-    ensures { result ≡ survey_of last_a last_b (take len places) }
+fn survey_of(vehicles: &[Vehicle], last_a: u16, last_b: u16) -> Survey
+    requires { length vehicles.now ≤ 24 }
+    ensures { result ≡ survey_of last_a last_b vehicles.now }
 {
     let none = Tally {
         count: 0,
@@ -79,61 +73,46 @@ fn survey_of(places: [Vehicle; Section::PLACES], len: usize, last_a: u16, last_b
         a: none,
         b: none,
     };
-    let mut i = len;
-    while 0 < i {
-        i -= 1;
-        survey = seen(places[i], last_a, last_b, survey);
+    for v in vehicles.iter().rev() {
+        survey = seen(*v, last_a, last_b, survey);
     }
     survey
 }
 
-// Whether the places from `from` on are unused.
-fn blank_from(places: [Vehicle; Section::PLACES], from: usize) -> bool
-    requires { from ≤ 24 }
-    ensures { result ≡ all_blank (drop from places) }
+// Whether places are unused. All are looked at: `all`, which leaves at the first that is not, takes more instructions (measured).
+fn all_blank(places: &[Vehicle]) -> bool
+    ensures { result ≡ all_blank places.now }
 {
-    let mut blank = true;
-    let mut i = Section::PLACES;
-    while from < i {
-        i -= 1;
-        blank = is_blank(places[i]) & blank;
-    }
-    blank
+    places
+        .iter()
+        .rev()
+        .fold(true, |blank, v| is_blank(*v) & blank)
 }
 
 // A vehicle's sender and form number in one number.
 fn key_of(v: Vehicle) -> u32
     ensures { Keyed v result }
 {
-    (v.sender as u32) * 65536 + (v.form as u32)
+    u32::from(v.sender) * 65536 + u32::from(v.form)
 }
 
-// Whether no key is `key`.
+// Whether no key is `key`. All are looked at, where `contains` leaves at the first: a bound that is a constant lets the compiler compare many at once.
 fn lacks(keys: &[u32; Section::PLACES], key: u32) -> bool
     ensures { result ≡ lacks key keys.now }
 {
-    let _ = &keys[..];
-    let mut none = true;
-    let mut i = Section::PLACES;
-    while 0 < i {
-        i -= 1;
-        none = !(keys[i] == key) & none;
-    }
-    none
+    keys.iter().rev().fold(true, |none, k| !(*k == key) & none)
 }
 
 // Whether form numbers differ among one sender's vehicles: each is looked for among the keys of those passed, and its own is put there.
-// All places are looked at, since a bound that is a constant lets the compiler compare many at once.
-fn forms_differ(places: [Vehicle; Section::PLACES], len: usize) -> bool
-    requires { len ≤ 24 }
-    ensures { result ≡ differ (take len places) }
+// Places are told by number, from the last down, since a key goes to its vehicle's.
+fn forms_differ(vehicles: &[Vehicle]) -> bool
+    requires { length vehicles.now ≤ 24 }
+    ensures { result ≡ differ vehicles.now }
 {
     let mut keys = [NO_KEY; Section::PLACES];
     let mut differ = true;
-    let mut i = len;
-    while 0 < i {
-        i -= 1;
-        let key = key_of(places[i]);
+    for i in (0..vehicles.len()).rev() {
+        let key = key_of(vehicles[i]);
         differ = lacks(&keys, key) & differ;
         keys[i] = key;
     }
@@ -141,13 +120,10 @@ fn forms_differ(places: [Vehicle; Section::PLACES], len: usize) -> bool
 }
 
 // Whether a running interval is not later than the clock.
-pub fn is_not_later(interval: Interval, clock: u16) -> bool
+pub fn is_not_later(interval: Option<u16>, clock: u16) -> bool
     ensures { result ≡ not_later interval clock }
 {
-    match interval {
-        Interval::Stopped => true,
-        Interval::Since(minute) => minute <= clock,
-    }
+    interval.is_none_or(|minute| minute <= clock)
 }
 
 // Whether a desk is well made beside the tally of its station's vehicles.
@@ -163,26 +139,14 @@ fn desk_made(d: Desk, t: Tally) -> bool
     ranges & (t.count <= d.sent) & is_not_later(interval, d.clock) & t.numbered
 }
 
-// Whether all numbers are 0.
-fn all_zero(numbers: [u64; Desk::FIGURES]) -> bool
-    ensures { result ≡ all_zero numbers }
-{
-    let mut zero = true;
-    let mut i = Desk::FIGURES;
-    while 0 < i {
-        i -= 1;
-        zero = (numbers[i] == 0) & zero;
-    }
-    zero
-}
-
 fn is_fresh(d: Desk) -> bool
     ensures { result ≡ is_fresh_desk d }
 {
-    all_zero(d.figures())
+    d == Desk::fresh()
 }
 
 // Whether a section is well made: clause by clause, in document 01's order, of any value.
+#[tactic(auto, unfolding(working::specs::WellMade::well_made))]
 pub fn well_made(s: Section) -> bool
     ensures { result ≡ well_made s }
 {
@@ -193,13 +157,11 @@ pub fn well_made(s: Section) -> bool
     let places = s.vehicles;
     let a = s.a;
     let b = s.b;
-    let survey = survey_of(places, len, a.last, b.last);
+    let (present, unused) = places.split_at(len);
+    let survey = survey_of(present, a.last, b.last);
     let of_a = survey.a;
     let of_b = survey.b;
-    let vehicles = blank_from(places, len)
-        & survey.shaped
-        & survey.ordered
-        & forms_differ(places, len);
+    let vehicles = all_blank(unused) & survey.shaped & survey.ordered & forms_differ(present);
     let desks = desk_made(a, of_a) & desk_made(b, of_b);
     let idle = (len == 0) & is_fresh(a) & is_fresh(b);
     vehicles & desks & (s.force | idle)

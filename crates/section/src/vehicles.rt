@@ -1,36 +1,20 @@
 // One vehicle: what it left on, whose it is, and whether its record is well made.
 ghost use Rattle.section.specs.Made.{movement_made};
-ghost use Rattle.std.specs.Prelude.{min, ◌≡◌};
+ghost use Rattle.std.specs.Prelude.{◌≡◌};
 ghost use Rattle.working.specs.Reasons.{is_named};
-ghost use Rattle.working.specs.WellMade.{is_blank, is_blank_movement, is_open_or_through, shaped};
+ghost use Rattle.working.specs.WellMade.{is_blank, is_open_or_through, shaped};
 
 use crate::stations::station_number;
-use working::{Desk, Movement, Section, Station, Vehicle};
+use working::{Desk, Movement, Station, Vehicle};
 
 // OPEN or THROUGH.
 pub fn is_open_or_through(movement: Movement) -> bool
     ensures { result ≡ is_open_or_through movement }
 {
-    match movement {
-        Movement::Open { asked: _ } => true,
-        Movement::Through => true,
-        Movement::Return {
-            asked: _,
-            granted: _,
-        } => false,
-        Movement::Train {
-            asked: _,
-            granted: _,
-        } => false,
-        Movement::LastTrain {
-            asked: _,
-            granted: _,
-            given_up: _,
-        } => false,
-    }
+    matches!(movement, Movement::Open { .. } | Movement::Through)
 }
 
-// Whether `v` is the vehicle that an entry names by its sender and form number.
+// Whether `v` is the vehicle that an entry names by its sender and form number: two arguments, as an entry has two fields.
 pub fn is_named(sender: Station, form: u16, v: Vehicle) -> bool
     ensures { result ≡ is_named sender form v }
 {
@@ -70,48 +54,15 @@ pub(crate) fn is_shaped(v: Vehicle) -> bool
     sent & headed & away & unmet & movement_made(movement, v.class)
 }
 
-pub(crate) fn is_blank_movement(movement: Movement) -> bool
-    ensures { result ≡ is_blank_movement movement }
-{
-    match movement {
-        Movement::Open { asked } => asked == 0,
-        Movement::Through => false,
-        Movement::Return {
-            asked: _,
-            granted: _,
-        } => false,
-        Movement::Train {
-            asked: _,
-            granted: _,
-        } => false,
-        Movement::LastTrain {
-            asked: _,
-            granted: _,
-            given_up: _,
-        } => false,
-    }
-}
-
-// Whether a place is unused: zero in every figure.
+// Whether a place is unused: zero in every figure. Each is tested, since `v == Vehicle::unused()` leaves at the first that differs: of a section without
+// vehicles `well_made` took 630 instructions so, and 400 so (measured).
 pub(crate) fn is_blank(v: Vehicle) -> bool
     ensures { result ≡ is_blank v }
 {
-    let movement = v.movement;
-    is_blank_movement(movement)
+    matches!(v.movement, Movement::Open { asked: 0 })
         & (v.sender == 0)
         & (v.form == 0)
         & (v.heading == 0)
         & !v.met
         & (v.class == 0)
-}
-
-// As many vehicles as there are places for.
-pub fn fitting(len: usize) -> usize
-    ensures { result ≡ min len 24 }
-{
-    if len < Section::PLACES {
-        len
-    } else {
-        Section::PLACES
-    }
 }

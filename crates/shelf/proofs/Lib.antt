@@ -1,3 +1,4 @@
+pub mod Chunks
 pub mod Titles
 pub mod Verdicts
 pub mod Walk

@@ -1,47 +1,45 @@
 -- Names and titles, byte by byte: zeros, letters that stand first, and a name at the front of zeros.
 -- Assumes nothing.
-use Prim.Native.Nat.{suc, zero, ℕ, ◌+◌, ◌-◌, ◌<◌, ◌≤◌}
+use Prim.Native.Nat.{suc, zero, ℕ, ◌+◌, ◌-◌, ◌≤◌}
+use Rattle.std.specs.List.{list_all, prefix_len}
 use Rattle.working.specs.Sections.{pad_with}
 use Rattle.working.specs.Shelves.{is_letter, is_zero, letters_in}
 use lib.Dec.{eqb}
-use lib.ListN.{drop, drop_of_length-le, get_or, length, length-drop, replicate, take}
-use lib.Seq.{drop-cons, take_all}
-use mathlib.Core.Bool.{Bool, and-true, false, true, ◌&&◌}
+use lib.ListN.{drop, length, length-drop, replicate, take}
+use lib.Seq.{take_all}
+use mathlib.Core.Bool.{Bool, cond, false, true, ◌&&◌}
 use mathlib.Core.List.{List, [], ◌++◌, ◌∷◌}
-use mathlib.Core.Path.{ap, refl, ◌≡◌}
-use native.Mathlib.Numerals.{add-one}
+use mathlib.Core.Path.{ap, refl, ◌∙◌, ◌≡◌}
 use native.Mathlib.Omega.{arith}
 
--- ---- zeros
+-- ---- zeros and letters
 
-pub zero_next : (l : List ℕ) (i : ℕ) → i < length l → is_zero (drop i l) ≡ eqb (get_or l i 0) 0 && is_zero (drop (i + 1) l)
+pub all_zero : (l : List ℕ) → list_all (λ b. eqb b 0) l ≡ is_zero l
 unfolding is_zero
-zero_next l i less = rw (add-one i, drop-cons l i 0 less)
+all_zero [] = refl
+all_zero (b ∷ l) = ap (λ t. eqb b 0 && t) (all_zero l)
 
-pub zero_end : (l : List ℕ) (i : ℕ) (so_far : Bool) → length l ≤ i → so_far && is_zero (drop i l) ≡ so_far
-unfolding is_zero
-zero_end l i so_far past = rw (drop_of_length-le l past, and-true)
+pub letters_first : (l : List ℕ) → prefix_len is_letter l ≡ letters_in l
+unfolding letters_in
+letters_first [] = refl
+letters_first (b ∷ l) =
+    let one : 1 + prefix_len is_letter l ≡ suc (prefix_len is_letter l) = omega arith in
+    ap (λ n. cond (is_letter b) n 0) (one ∙ ap suc (letters_first l))
 
--- ---- letters
-
-module _ (l : List ℕ) (i : ℕ) where
-  pub letters_next : i < length l → is_letter (get_or l i 0) ≡ true → letters_in (drop i l) ≡ suc (letters_in (drop (i + 1) l))
-  unfolding letters_in
-  letters_next less is = rw (add-one i, drop-cons l i 0 less, is)
-
-  pub letters_stop : i < length l → is_letter (get_or l i 0) ≡ false → letters_in (drop i l) ≡ 0
-  unfolding letters_in
-  letters_stop less is = rw (drop-cons l i 0 less, is)
-
-  pub letters_end : length l ≤ i → letters_in (drop i l) ≡ 0
-  unfolding letters_in
-  letters_end past = rw (drop_of_length-le l past)
+pub few_first : (l : List ℕ) → letters_in l ≤ length l
+unfolding letters_in
+few_first [] = omega arith
+few_first (b ∷ l) = by (is_letter b) (few_first l)
+  where
+    by : (letter : Bool) → letters_in l ≤ length l → cond letter (suc (letters_in l)) 0 ≤ suc (length l)
+    by true h = omega arith
+    by false h = omega arith
 
 -- ---- titles
 
 -- a slice from a place to the end
-pub to_end : (l : List ℕ) (at : ℕ) → take (length l - at) (drop at l) ≡ drop at l
-to_end l at = take_all (length l - at) (drop at l) (omega (arith, length-drop at l))
+pub to_end : (l : List ℕ) (at n : ℕ) → length l ≤ n → take (n - at) (drop at l) ≡ drop at l
+to_end l at n long = take_all (n - at) (drop at l) (omega (arith, length-drop at l))
 
 -- a name at the front of zeros
 pub in_front : (n : ℕ) (l : List ℕ) → length l ≤ n → l ++ drop (length l) (replicate n 0) ≡ pad_with 0 n l

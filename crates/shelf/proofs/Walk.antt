@@ -1,13 +1,11 @@
 -- The places of a shelf from the i-th on, as the definitions go over them: what stands in the i-th, and the rest.
 -- Assumes nothing.
 use Prim.Native.Nat.{suc, ℕ, ◌*◌, ◌+◌, ◌-◌, ◌<◌}
-use Rattle.position.proofs.Places.{first}
-use Rattle.working.specs.Positions.{byte_at, is_position, same_bytes}
-use Rattle.working.specs.Shelves.{is_among, is_title, is_zero, place_for, places_made, title_in, used_well}
-use lib.Dec.{eqb}
+use Rattle.working.specs.Positions.{is_position}
+use Rattle.working.specs.Shelves.{is_among, is_title, is_zero, places_made, title_in, used_well}
 use lib.ListN.{drop, take}
 use lib.Seq.{drop-drop}
-use mathlib.Core.Bool.{Bool, and-true, and_assoc, cond, not, ◌&&◌, ◌||◌}
+use mathlib.Core.Bool.{Bool, and-true, and_assoc, cond, not, ◌&&◌}
 use mathlib.Core.List.{List}
 use mathlib.Core.Path.{ap, ◌∙◌, ◌≡◌}
 use native.Mathlib.Omega.{arith}
@@ -22,10 +20,6 @@ module _ (shelf : List ℕ) (i : ℕ) (less : i < 16) where
 
   behind : drop 293 (places_from shelf i) ≡ places_from shelf (i + 1)
   behind = let on : 293 * i + 293 ≡ 293 * (i + 1) = omega arith in drop-drop 293 (293 * i) shelf ∙ ap (λ k. drop k shelf) on
-
-  pub among_next : (title : List ℕ) → is_among title (16 - i) (places_from shelf i) ≡ same_bytes (title_in (places_from shelf i)) title || is_among title (16 - (i + 1)) (places_from shelf (i + 1))
-  unfolding is_among
-  among_next title = rw (left, behind)
 
   -- by the tests of the code
   pub made_next : {zeros used : Bool} → zeros ≡ is_zero (take (293 * i + 293 - 293 * i) (places_from shelf i)) → used ≡ used_well (15 - i) (places_from shelf i)
@@ -44,9 +38,3 @@ module _ (shelf : List ℕ) (i : ℕ) (less : i < 16) where
   used_here =
       let others : 15 - i ≡ 16 - (i + 1) = omega arith in
       rw (others, behind, drop-drop 12 (293 * i) shelf, and-true) (and_assoc (is_title (title_in (places_from shelf i))) _ _)
-
-  pub place_next : (title : List ℕ)
-      → place_for title (16 - i) (places_from shelf i)
-      ≡ cond (same_bytes (title_in (places_from shelf i)) title || eqb (byte_at shelf (293 * i)) 0) 0 (suc (place_for title (16 - (i + 1)) (places_from shelf (i + 1))))
-  unfolding place_for
-  place_next title = rw (left, behind, first shelf (293 * i))

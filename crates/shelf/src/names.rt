@@ -1,43 +1,31 @@
 // Names: 1 to 12 capital letters; and a name as it stands in a place, with zeros to 12, its title.
 ghost use Rattle.std.specs.Prelude.{length, ◌≡◌, ◌≤◌};
-ghost use Rattle.working.specs.Shelves.{is_letter, is_name, is_title, is_zero, letters_in, title_of};
+ghost use Rattle.working.specs.Shelves.{is_name, is_title, is_zero, letters_in, title_of};
 
 // The bytes of a name in its place.
 pub const NAME: usize = 12;
 
-fn is_letter(byte: u8) -> bool
-    ensures { result ≡ is_letter byte }
-{
-    (65 <= byte) & (byte <= 90)
-}
+// A name as it stands there.
+pub(crate) type Title = [u8; NAME];
 
-// How many letters stand before anything else.
+// How many capital letters stand before anything else.
 fn letters_in(bytes: &[u8]) -> usize
     ensures { (result ≡ letters_in bytes.now) × (result ≤ length bytes.now) }
 {
-    let mut i = 0;
-    while i < bytes.len() {
-        if !is_letter(bytes[i]) {
-            return i;
-        }
-        i += 1;
-    }
-    i
+    bytes
+        .iter()
+        .take_while(|byte| byte.is_ascii_uppercase())
+        .count()
 }
 
 // Whether all bytes are zero.
 pub(crate) fn is_zero(bytes: &[u8]) -> bool
     ensures { result ≡ is_zero bytes.now }
 {
-    let mut zero = true;
-    let mut i = 0;
-    while i < bytes.len() {
-        zero = zero & (bytes[i] == 0);
-        i += 1;
-    }
-    zero
+    bytes.iter().all(|byte| *byte == 0)
 }
 
+#[tactic(auto, unfolding(working::specs::Shelves::is_name))]
 pub(crate) fn is_name(name: &[u8]) -> bool
     ensures { result ≡ is_name name.now }
 {
@@ -46,14 +34,15 @@ pub(crate) fn is_name(name: &[u8]) -> bool
 }
 
 // Letters, one at least, and zeros.
-pub(crate) fn is_title(title: &[u8]) -> bool
+#[tactic(auto, using(crate::proofs::Titles::to_end), unfolding(working::specs::Shelves::is_title))]
+pub(crate) fn is_title(title: &Title) -> bool
     ensures { result ≡ is_title title.now }
 {
     let letters = letters_in(title);
     (1 <= letters) & is_zero(&title[letters..])
 }
 
-pub(crate) fn title_of(name: &[u8]) -> [u8; NAME]
+pub(crate) fn title_of(name: &[u8]) -> Title
     requires { length name.now ≤ 12 }
     ensures { result ≡ title_of name.now }
 {

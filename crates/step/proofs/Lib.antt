@@ -13,9 +13,8 @@ pub mod Next
 pub mod Filling
 -- ---- what the forms of the step and the running of a log promise, by their contracts
 pub mod OfContracts
--- ---- texts and numbers stored, listings by computation, and what the theorems say of logs written out
+-- ---- texts, listings by computation, and what the theorems say of logs written out
 pub mod Containing
-pub mod Stored
 pub mod Examples
 pub mod Consequences
 pub mod OfBlocks

@@ -4,22 +4,20 @@
 #![tactic(auto)]
 
 mod blocks;
-mod double_memory;
-mod double_running;
-mod double_stepping;
+mod double_line;
+mod instances;
+mod lines;
 mod memory;
 mod next_line;
 mod positions;
 mod running;
+mod single_line;
 mod stepping;
-mod tables;
 
-pub use blocks::{double_fill, double_list, fill, list};
-pub use double_memory::double_step_in_place;
-pub use double_running::{DoubleRan, double_run};
-pub use double_stepping::double_step;
+pub use blocks::{fill, list};
+pub use lines::Line;
 pub use memory::step_in_place;
 pub use next_line::{Listed, Put, start_of};
 pub use positions::step_position;
-pub use running::{Last, LogEnd, Ran, ended, run, taken};
+pub use running::{LogEnd, Ran, ended, run, taken};
 pub use stepping::step;

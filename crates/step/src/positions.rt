@@ -1,20 +1,21 @@
 // The step on a section that a host keeps as a position, in its own bytes (T-06).
 ghost use Rattle.std.specs.Prelude.{length, true, ◌≡◌, ◌≤◌};
 ghost use Rattle.words.specs.Words.{section_in};
-ghost use Rattle.working.specs.Positions.{StepsPosition, answer_in, refusal_of, speed_number};
+ghost use Rattle.working.specs.Positions.{StepsPosition, answer_in, speed_number};
+ghost use Rattle.working.specs.Refusals.{refusal_in};
 ghost use Rattle.working.specs.Steps.{step_of};
 ghost use Rattle.working.specs.WellMade.{well_made};
 
-use crate::running::{Last, advance};
+use crate::running::advance;
 use entering::refuse;
 use position::{position_in, read};
 use words::{WORDS, Words};
-use working::{Answer, Refusal, Speed, Whose};
+use working::{Accepted, Answer, Refusal, Section, Speed};
 
 // How many numbers an answer is: form number, forms and speed.
 const ANSWER: usize = 3;
 
-// A speed's number: its case, 0 to 4, times 65,536, and its figures.
+// A speed's number, as hosts have it (T-06): its case, 0 to 4, times 65,536, and its figures.
 const WALKING: u32 = 65536;
 
 const KMH: u32 = 131072;
@@ -29,27 +30,27 @@ fn speed_number(speed: Speed) -> u32
     match speed {
         Speed::NoSpeed => 0,
         Speed::Walking => WALKING,
-        Speed::Kmh(n) => KMH + n as u32,
+        Speed::Kmh(n) => KMH + u32::from(n),
         Speed::Booked => BOOKED,
         Speed::Both {
             straight,
             elsewhere,
-        } => BOTH + 256 * straight as u32 + elsewhere as u32,
+        } => BOTH + 256 * u32::from(straight) + u32::from(elsewhere),
     }
 }
 
-// The answer as numbers, at the front of those lent, which a refusal leaves as they were; and the number of the refusal, or 0.
-fn put_answer(numbers: &mut [u32], answer: Answer) -> u32
+// The answer as numbers, at the front of those lent, which a refusal leaves as they were.
+fn put_answer(numbers: &mut [u32], answer: Answer) -> Result<(), Refusal>
     requires { 3 ≤ length numbers.old }
-    ensures { (result ≡ refusal_of answer) × (numbers.new ≡ answer_in answer numbers.old) }
+    ensures { (refusal_in result ≡ refusal_in answer) × (numbers.new ≡ answer_in answer numbers.old) }
 {
     match answer {
-        Answer::Refused(why) => why.number() as u32,
-        Answer::Accepted { form, forms, speed } => {
-            numbers[0] = form as u32;
-            numbers[1] = forms as u32;
+        Err(why) => Err(why),
+        Ok(Accepted { form, forms, speed }) => {
+            numbers[0] = u32::from(form);
+            numbers[1] = u32::from(forms);
             numbers[2] = speed_number(speed);
-            0
+            Ok(())
         }
     }
 }
@@ -60,28 +61,27 @@ fn entered(words: &mut Words, entry: &[u8]) -> Answer
     ensures { (result ≡ (step_of (section_in words.old) entry.now).answer)
         × (section_in words.new ≡ (step_of (section_in words.old) entry.now).section) }
 {
-    let done = advance(false, words, entry, 0, 1);
-    let last = done.last;
-    match last {
-        Last::NoEntry => refuse(words, Whose::NoStation, Refusal::EndsInside),
-        Last::Answered(answer) => answer,
+    let done = advance::<Section>(words, entry, 0, 1);
+    match done.last {
+        None => refuse(words, None, Refusal::EndsInside),
+        Some(answer) => answer,
     }
 }
 
-// The step on the position lent, which is left as that of the section after it. The answer is 0 and the form number, forms and speed stand at the front of the numbers lent;
-// or it is the number of the refusal, and the numbers keep their values. 26 and 23 alter nothing; 1 to 4 and 6 to 22 are counted in the position.
-pub fn step_position(position: &mut [u8], entry: &[u8], answer: &mut [u32]) -> u32
-    ensures { StepsPosition position.old entry.now answer.old result position.new answer.new }
+// The step on the position lent, which is left as that of the section after it. The form number, forms and speed stand then at the front of the numbers lent; where the step
+// is refused, these keep their values. 26 and 23 alter nothing; 1 to 4 and 6 to 22 are counted in the position.
+pub fn step_position(position: &mut [u8], entry: &[u8], numbers: &mut [u32]) -> Result<(), Refusal>
+    ensures { StepsPosition position.old entry.now numbers.old (refusal_in result) position.new numbers.new }
 {
     let mut words = [0; WORDS];
     if !read(position, &mut words) {
-        return 26;
+        return Err(Refusal::NoPosition);
     }
-    if answer.len() < ANSWER {
-        return 23;
+    if numbers.len() < ANSWER {
+        return Err(Refusal::BufferTooShort);
     }
     let given = entered(&mut words, entry);
     let written = position_in(&words);
     position.copy_from_slice(&written);
-    put_answer(answer, given)
+    put_answer(numbers, given)
 }

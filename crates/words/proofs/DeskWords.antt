@@ -1,9 +1,12 @@
 -- A station's desk is put: all other words are as they were, so that they stand for the section with that desk; and a section's own words become those of
 -- the section with it. And one of the counts is put, likewise.
 -- Assumes nothing.
-use Prim.Native.Nat.{suc, zero, ℕ, ◌%◌, ◌+◌, ◌-◌, ◌<◌, ◌≤◌}
+use Prim.Native.Nat.{min, suc, zero, ℕ, ◌%◌, ◌+◌, ◌-◌, ◌<◌, ◌≤◌}
+use Rattle.std.proofs.lemmas.Bool.Decides.{nat_tests}
+use Rattle.std.proofs.lemmas.Slice.{between-put_mid, drop-put_mid, take-put_mid_below}
+use Rattle.std.specs.Prelude.{None, Option, Some}
 use Rattle.words.proofs.Packing.{one_back_lem}
-use Rattle.words.proofs.Written.{as_written, first_words, set_past, written}
+use Rattle.words.proofs.Written.{as_written, first_words, set_past, taken, written}
 use Rattle.words.specs.Stores.{DeskPut}
 use Rattle.words.specs.Words.{Becomes, DeskBecomes, RingKept, count_in, count_place, section_in, start_in, word_count, words_from, words_of}
 use Rattle.words.specs.Words.{desk_from, desk_in, desk_read, desk_words, desk_words_in, interval_in, ring_from}
@@ -11,14 +14,11 @@ use Rattle.working.specs.Sections.{count_of, count_refusal, desk_of, one_more, w
 use Rattle.working.specs.WellMade.{desk_length, interval_number}
 use Rattle.working.specs.declared.Clears.{Clears}
 use Rattle.working.specs.declared.Desk.{Desk}
-use Rattle.working.specs.declared.Interval.TheVariants.{Since, Stopped}
-use Rattle.working.specs.declared.Interval.{Interval}
 use Rattle.working.specs.declared.Section.{Section}
 use Rattle.working.specs.declared.Station.TheVariants.{A, B}
 use Rattle.working.specs.declared.Station.{Station}
-use Rattle.working.specs.declared.Whose.TheVariants.{NoStation, Of}
-use Rattle.working.specs.declared.Whose.{Whose}
-use lib.ListN.{drop, drop_of_length-le, get_or, length, length-drop, set, take, take-append-drop}
+use borrow.Rule.Slice.PartMut.{put_mid}
+use lib.ListN.{drop, drop_of_length-le, get_or, length, length-append, length-drop, length-take, set, take, take-append-drop}
 use lib.Seq.{drop-cons, drop-drop, drop-set-lt, length-take-le, take-suc, take_all}
 use mathlib.Core.List.{List, [], append-nil, append_assoc, ◌++◌, ◌∷◌}
 use mathlib.Core.Path.{ap, ap₂, refl, sym, ◌∙◌, ◌≡◌}
@@ -28,15 +28,15 @@ use native.Mathlib.Omega.{arith}
 
 -- ---- the interval
 
-pub interval_since : (word : ℕ) → (word ≡ 0 → ⊥) → Since ((word - 1) % 65536) ≡ interval_in word
+pub interval_since : (word : ℕ) → (word ≡ 0 → ⊥) → Some ((word - 1) % 65536) ≡ interval_in word
 interval_since zero some = absurd (some refl)
 interval_since (suc minute) some =
     let same : suc minute - 1 ≡ minute = omega arith in
     rw same
 
-pub interval_back : (i : Interval) → interval_number i ≤ 65536 → interval_in (interval_number i) ≡ i
-interval_back Stopped less = refl
-interval_back (Since minute) less =
+pub interval_back : (i : Option ℕ) → interval_number i ≤ 65536 → interval_in (interval_number i) ≡ i
+interval_back None less = refl
+interval_back (Some minute) less =
     let small : minute < 65536 = omega arith in
     rw (add-one minute, mod-eq_of_lt small)
 
@@ -58,10 +58,8 @@ desk_back d less same =
     e
 
 -- it is read off the first of any words
-pub desk_first : (w : List ℕ) (i : ℕ) → i + desk_length ≤ length w → desk_read (take (length w - i) (drop i w)) ≡ desk_read (words_from i desk_length w)
-desk_first w i fits =
-    let few : length (drop i w) ≤ length w - i = simp length-drop (omega arith) in
-    ap desk_read (take_all (length w - i) (drop i w) few ∙ first_words i desk_length w fits)
+pub desk_first : (w : List ℕ) (i n : ℕ) → i + desk_length ≤ length w → length w ≤ i + n → desk_read (take n (drop i w)) ≡ desk_read (words_from i desk_length w)
+desk_first w i n fits all = ap desk_read (take_all n (drop i w) (simp length-drop (omega arith)) ∙ first_words i desk_length w fits)
 
 -- ---- with other words at a station
 
@@ -112,9 +110,20 @@ put_next {w} {u} {after} {x} {p} {q} one two = record {
   behind = two.behind ∙ one.behind;
 }
 
-pub put_as : {w after : List ℕ} {x : Station} {p : List ℕ → List ℕ} (q : List ℕ → List ℕ) → DeskPut w after x p
-    → p (desk_words_in w x) ≡ q (desk_words_in w x) → DeskPut w after x q
-put_as q one e = record { long = one.long; same = one.same; desk = one.desk ∙ e; ahead = one.ahead; behind = one.behind }
+-- all of them at once, where a desk's words begin
+pub put-all : {x : Station} (w f : List ℕ) (a k : ℕ) → length w ≡ word_count → length f ≡ desk_length → a ≡ desk_from x → k ≡ desk_length → DeskPut w (put_mid a k w f) x (λ t. f)
+put-all {x} w f a k long all at size =
+    let fits : desk_from x + desk_length ≤ length w = omega (arith, desk-fits x) in
+    let same : length (put_mid a k w f) ≡ length w = simp (length-append, length-take, length-drop) (omega arith) in
+    record {
+      long = long;
+      same = same;
+      desk =
+          taken (desk_from x) desk_length (put_mid a k w f) (omega arith) ∙ ap₂ (λ n i. take n (drop i (put_mid a k w f))) {x = desk_length} {y = a + desk_length - a} (omega arith) (sym at)
+          ∙ between-put_mid a k w f (a + desk_length) (omega arith) (omega arith);
+      ahead = take-put_mid_below a k w f (desk_from x) (omega arith) (omega arith);
+      behind = drop-put_mid a k w f (desk_from x + desk_length) (omega arith) (omega arith) (omega arith);
+    }
 
 -- one more of the numbers f is put in its place
 pub figure_next : (f t : List ℕ) (i : ℕ) → i < length f → i < length t → set (take i f ++ drop i t) i (get_or f i 0) ≡ take (i + 1) f ++ drop (i + 1) t
@@ -147,32 +156,35 @@ desk_becomes {x} {w} {after} {put} f p read words =
 
 -- ---- the counts of refusals
 
+pub more_counted : (n : ℕ) → n < 4294967296 → min (n + 1) 4294967295 ≡ one_more n
+more_counted n fits = grind (arith, nat_tests)
+
 -- one of them is put, and the two others are as they were
-put_count : (whose : Whose) (w : List ℕ) (n : ℕ) → n < 4294967296 → n ≡ one_more (count_in w whose)
+put_count : (whose : Option Station) (w : List ℕ) (n : ℕ) → n < 4294967296 → n ≡ one_more (count_in w whose)
     → section_in (set (written w) (count_place whose) n) ≡ count_refusal whose (section_in w)
 unfolding section_in
-put_count (Of A) w n fits e = rw (mod-eq_of_lt fits, e)
-put_count (Of B) w n fits e = rw (mod-eq_of_lt fits, e)
-put_count NoStation w n fits e = rw (mod-eq_of_lt fits, e)
+put_count (Some A) w n fits e = rw (mod-eq_of_lt fits, e)
+put_count (Some B) w n fits e = rw (mod-eq_of_lt fits, e)
+put_count None w n fits e = rw (mod-eq_of_lt fits, e)
 
-own-count : (whose : Whose) (s : Section) (start : ℕ) → set (words_of s start) (count_place whose) (one_more (count_of s.refused whose)) ≡ words_of (count_refusal whose s) start
+own-count : (whose : Option Station) (s : Section) (start : ℕ) → set (words_of s start) (count_place whose) (one_more (count_of s.refused whose)) ≡ words_of (count_refusal whose s) start
 unfolding words_of
-own-count (Of A) s start = refl
-own-count (Of B) s start = refl
-own-count NoStation s start = refl
+own-count (Some A) s start = refl
+own-count (Some B) s start = refl
+own-count None s start = refl
 
-start-count : (whose : Whose) (w : List ℕ) (n : ℕ) → start_in (set (written w) (count_place whose) n) ≡ start_in w
-start-count (Of A) w n = refl
-start-count (Of B) w n = refl
-start-count NoStation w n = refl
+start-count : (whose : Option Station) (w : List ℕ) (n : ℕ) → start_in (set (written w) (count_place whose) n) ≡ start_in w
+start-count (Some A) w n = refl
+start-count (Some B) w n = refl
+start-count None w n = refl
 
-count_at : (whose : Whose) (w : List ℕ) → count_of (section_in w).refused whose ≡ count_in w whose
+count_at : (whose : Option Station) (w : List ℕ) → count_of (section_in w).refused whose ≡ count_in w whose
 unfolding section_in
-count_at (Of A) w = refl
-count_at (Of B) w = refl
-count_at NoStation w = refl
+count_at (Some A) w = refl
+count_at (Some B) w = refl
+count_at None w = refl
 
-pub count_becomes : (whose : Whose) (w : List ℕ) {n : ℕ} → length w ≡ word_count → n < 4294967296 → n ≡ one_more (count_in w whose)
+pub count_becomes : (whose : Option Station) (w : List ℕ) {n : ℕ} → length w ≡ word_count → n < 4294967296 → n ≡ one_more (count_in w whose)
     → Becomes w (set w (count_place whose) n) (count_refusal whose (section_in w)) (start_in w) × RingKept w (set w (count_place whose) n)
 count_becomes whose w {n} long fits e =
     let shown = ap (λ u. set u (count_place whose) n) (as_written w long) in (
@@ -185,7 +197,7 @@ count_becomes whose w {n} long fits e =
       drop-set-lt ring_from w (count_place whose) n (low whose),
     )
   where
-    low : (whose : Whose) → count_place whose < ring_from
-    low (Of A) = omega arith
-    low (Of B) = omega arith
-    low NoStation = omega arith
+    low : (whose : Option Station) → count_place whose < ring_from
+    low (Some A) = omega arith
+    low (Some B) = omega arith
+    low None = omega arith

@@ -70,27 +70,35 @@ as_vehicles : (w : List ℕ) {after : List ℕ} (f : List Vehicle → List Vehic
 as_vehicles w f start b = becomes_as b (ap (λ l. with_vehicles (section_in w) (f l)) (sym (vehicles_of_lem w))) refl
 
 pub insert_becomes : (x : Station) (v : Vehicle) (w : List ℕ) {n slot first : ℕ} {moved after : List ℕ} → n ≡ length (vehicles_of (section_in w))
-    → StartMoved (set w 0 (n + 1)) moved x one_back first → (slot ≡ end_slot x first n) × (slot < slots) → VehiclePut moved after slot v
+    → StartMoved (set w 0 (n + 1)) moved x one_back first → slot ≡ end_slot x first n → slot < slots → VehiclePut moved after slot v
     → VehiclesBecome w after (insert_at x v) (λ start. start_on x start one_back)
-insert_becomes x v w {n} {slot} size start end put =
+insert_becomes x v w {n} {slot} size start end inside put =
     let l = vehicles_in w in
     let here : end_slot x (start_on x (start_in w) one_back) (length l) ≡ slot =
-    sym (end.0 ∙ ap₂ (end_slot x) (start.at ∙ ap (λ k. start_on x k one_back) (start-kept w (n + 1))) (size ∙ ap length (vehicles_of_lem w))) in
+    sym (end ∙ ap₂ (end_slot x) (start.at ∙ ap (λ k. start_on x k one_back) (start-kept w (n + 1))) (size ∙ ap length (vehicles_of_lem w))) in
     let moves = subst (λ i. Moves (start_in w) l i v (start_on x (start_in w) one_back) (insert_at x v l)) here (enters_moves (start_in w) l (omega arith) (vehicles_fit w) x v) in
     let count : n + 1 ≡ length (insert_at x v l) = omega (arith, insert-length x v l, ap length (vehicles_of_lem w)) in
     as_vehicles w (insert_at x v) (λ k. start_on x k one_back)
-    (vehicles_become slot v (start_on x (start_in w) one_back) (insert_at x v l) end.1 (start_less x w one_back) w (end-stored x one_back w start put) count moves)
+    (vehicles_become slot v (start_on x (start_in w) one_back) (insert_at x v l) inside (start_less x w one_back) w (end-stored x one_back w start put) count moves)
+
+-- at B's end the start stays
+pub last_becomes : (v : Vehicle) (w : List ℕ) {n slot : ℕ} {after : List ℕ} → n ≡ length (vehicles_of (section_in w)) → slot ≡ (start_in w + n) % slots → slot < slots
+    → VehiclePut (set w 0 (n + 1)) after slot v → VehiclesBecome w after (insert_at B v) (λ start. start_on B start one_back)
+last_becomes v w {n} size end inside put =
+    let start : StartMoved (set w 0 (n + 1)) (set w 0 (n + 1)) B one_back (start_in (set w 0 (n + 1))) =
+    record { stored = sym (set-get_or (set w 0 (n + 1)) start_place 0); at = refl } in
+    insert_becomes B v w size start (end ∙ ap (λ k. (k + n) % slots) (sym (start-kept w (n + 1)))) inside put
 
 pub remove_becomes : (x : Station) (w : List ℕ) {n slot next : ℕ} {moved after : List ℕ} → n ≡ length (vehicles_of (section_in w)) - 1
-    → StartMoved (set w 0 n) moved x 1 next → (slot ≡ end_slot x (start_in (set w 0 n)) n) × (slot < slots) → VehiclePut moved after slot unused
+    → StartMoved (set w 0 n) moved x 1 next → slot ≡ end_slot x (start_in (set w 0 n)) n → slot < slots → VehiclePut moved after slot unused
     → VehiclesBecome w after (remove_at x) (λ start. start_on x start 1)
-remove_becomes x w {n} {slot} size start end put =
+remove_becomes x w {n} {slot} size start end inside put =
     let l = vehicles_in w in
     let count : n ≡ length l - 1 = omega (arith, ap length (vehicles_of_lem w)) in
-    let here : end_slot x (start_in w) (length l - 1) ≡ slot = sym (end.0 ∙ ap₂ (end_slot x) (start-kept w n) count) in
+    let here : end_slot x (start_in w) (length l - 1) ≡ slot = sym (end ∙ ap₂ (end_slot x) (start-kept w n) count) in
     let moves = subst (λ i. Moves (start_in w) l i unused (start_on x (start_in w) 1) (remove_at x l)) here (leaves_moves (start_in w) l (omega arith) (vehicles_fit w) x) in
     as_vehicles w (remove_at x) (λ k. start_on x k 1)
-    (vehicles_become slot unused (start_on x (start_in w) 1) (remove_at x l) end.1 (start_less x w 1) w (end-stored x 1 w start put) (omega (arith, remove-length x l)) moves)
+    (vehicles_become slot unused (start_on x (start_in w) 1) (remove_at x l) inside (start_less x w 1) w (end-stored x 1 w start put) (omega (arith, remove-length x l)) moves)
 
 -- ---- one has met another: its first word alone is stored
 

@@ -1,9 +1,8 @@
 -- A vehicle's two words, each figure in bytes of its own: a figure that fits its bytes comes back.
 -- Assumes nothing.
-use Prim.Native.Nat.{suc, zero, ℕ, ◌%◌, ◌*◌, ◌+◌, ◌/◌, ◌<◌, ◌≤◌}
-use Rattle.words.specs.Words.{first_word, left_on, movement_in, packed, vehicle_in}
+use Prim.Native.Nat.{ℕ, ◌%◌, ◌*◌, ◌+◌, ◌/◌, ◌<◌, ◌≤◌}
+use Rattle.words.specs.Words.{first_word, movement_in, vehicle_in}
 use Rattle.working.specs.WellMade.{one_if}
-use Rattle.working.specs.declared.Movement.TheVariants.{LastTrain}
 use Rattle.working.specs.declared.Vehicle.{Vehicle}
 use lib.Dec.{eqb}
 use mathlib.Core.Bool.{Bool, false, true}
@@ -23,15 +22,6 @@ one_most false = omega arith
 low : (n above : ℕ) → n < 256 → (n + above * 256) % 256 ≡ n
 low n above h = omega arith
 
-pub movement_back : (left asked granted given_up : ℕ) → left ≤ 4 → asked < 256 → granted < 256 → given_up < 256
-    → movement_in (packed left asked granted given_up) ≡ left_on left asked granted given_up
-movement_back left asked granted given_up l a g u =
-    let on : packed left asked granted given_up % 256 ≡ left = omega arith in
-    let given : packed left asked granted given_up / 256 ≡ granted + (asked + given_up * 256) * 256 = omega arith in
-    let wanted : packed left asked granted given_up / 65536 ≡ asked + given_up * 256 = omega arith in
-    let up : packed left asked granted given_up / 16777216 ≡ given_up = omega arith in
-    rw (on, given, wanted, up, low granted _ g, low asked _ a, mod-eq_of_lt u)
-
 pub vehicle_back : (v : Vehicle) (second : ℕ) → movement_in second ≡ v.movement → v.form < 65536 → v.sender < 256 → v.heading < 256 → v.class < 256
     → vehicle_in (first_word v) second ≡ v
 vehicle_back v second moved f s h k =
@@ -42,10 +32,3 @@ vehicle_back v second moved f s h k =
     let met : first_word v / 4294967296 ≡ one_if v.met + v.class * 256 = omega arith in
     let class : first_word v / 1099511627776 ≡ v.class = omega arith in
     rw (form, sender, heading, met, class, low v.sender _ s, low v.heading _ h, low (one_if v.met) _ (omega arith), mod-eq_of_lt k, one_back_lem v.met, moved)
-
-pub left-last : (left : ℕ) {asked granted given_up : ℕ} → 4 ≤ left → LastTrain asked granted given_up ≡ left_on left asked granted given_up
-left-last zero h = absurd (omega arith)
-left-last (suc zero) h = absurd (omega arith)
-left-last (suc (suc zero)) h = absurd (omega arith)
-left-last (suc (suc (suc zero))) h = absurd (omega arith)
-left-last (suc (suc (suc (suc n)))) h = refl

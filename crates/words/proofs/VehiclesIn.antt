@@ -3,6 +3,10 @@
 -- Assumes nothing.
 use Prim.Native.Nat.{min, suc, zero, ℕ, ◌%◌, ◌*◌, ◌+◌, ◌-◌, ◌<◌, ◌≤◌}
 use Rattle.section.proofs.Passes.{take_present}
+use Rattle.std.proofs.lemmas.List.FromFn.{length-range_with_len}
+use Rattle.std.specs.List.{position, position_or_len, range_with_len}
+use Rattle.std.specs.Option.{MatchOption}
+use Rattle.std.specs.Prelude.{None, Some}
 use Rattle.words.proofs.Round.{Moves, Stands, round-length, round_at}
 use Rattle.words.proofs.Slots.{in_ring, list_altered, slot_altered, slot_words_lem}
 use Rattle.words.proofs.Written.{as_written, set_past}
@@ -17,10 +21,11 @@ use Rattle.working.specs.declared.Section.{Section}
 use Rattle.working.specs.declared.Station.TheVariants.{A, B}
 use Rattle.working.specs.declared.Station.{Station}
 use Rattle.working.specs.declared.Vehicle.{Vehicle}
-use borrow.Author.Tests.{ltb-true}
-use lib.ListN.{drop, drop_of_length-le, get_or, get_or-eq_default, length, length-drop, length-set, set, take}
-use lib.Seq.{drop-cons, ext_get_or}
-use mathlib.Core.Bool.{Bool, cond, true}
+use borrow.Author.Tests.{ltb-false, ltb-true}
+use lib.Dec.{ltb}
+use lib.ListN.{get_or, get_or-eq_default, length, length-drop, length-set, set, take}
+use lib.Seq.{ext_get_or}
+use mathlib.Core.Bool.{Bool, cond, false, not, true}
 use mathlib.Core.List.{List, [], ◌++◌, ◌∷◌}
 use mathlib.Core.Path.{ap, ap₂, refl, sym, ◌∙◌, ◌≡◌}
 use native.Mathlib.Decide.{dec_le}
@@ -86,15 +91,36 @@ near_none A [] e = refl
 near_none B [] e = refl
 near_none x (v ∷ l) e = absurd (omega arith)
 
--- a search from place i on: at its end, and at a vehicle that is the one named or not
-pub find_end : (sender : Station) (form : ℕ) (l : List Vehicle) (i : ℕ) → length l ≤ i → find_of sender form (drop i l) ≡ 0
-find_end sender form l i past = ap (find_of sender form) (drop_of_length-le l {i = i} past)
+-- the place found is at most how many there are, and it is the first, place by place
+pub find_most : (sender : Station) (form : ℕ) (l : List Vehicle) → find_of sender form l ≤ length l
+find_most sender form [] = omega arith
+find_most sender form (v ∷ l) = by (is_named sender form v) (find_most sender form l)
+  where
+    by : (named : Bool) {n m : ℕ} → n ≤ m → cond named 0 (suc n) ≤ suc m
+    by true less = omega arith
+    by false less = omega arith
 
-pub find_on : (sender : Station) (form : ℕ) (l : List Vehicle) (i : ℕ) {named : Bool} → i < length l → is_named sender form (get_or l i unused) ≡ named
-    → find_of sender form (drop i l) ≡ cond named 0 (suc (find_of sender form (drop (i + 1) l)))
-find_on sender form l i {named} h e =
-    let next : suc i ≡ i + 1 = omega arith in
-    ap (find_of sender form) (drop-cons l i unused h) ∙ rw (e, ← next)
+find_from : (sender : Station) (form : ℕ) (l m : List Vehicle) (i : ℕ) → ((k : ℕ) → get_or l (i + k) unused ≡ get_or m k unused)
+    → position_or_len (λ j. is_named sender form (get_or l j unused)) (range_with_len i (length m)) ≡ find_of sender form m
+find_from sender form l [] i same = refl
+find_from sender form l (v ∷ m) i same =
+    let here : get_or l i unused ≡ v = ap (λ k. get_or l k unused) (omega arith) ∙ same 0 in
+    rw here (by (is_named sender form v) (find_from sender form l m (i + 1) (λ k. ap (λ j. get_or l j unused) (omega arith) ∙ same (suc k))))
+  where
+    by : (named : Bool) {n k : ℕ} → n ≡ k → cond (not named) (1 + n) 0 ≡ cond named 0 (suc k)
+    by true e = refl
+    by false e = omega arith
+
+pub find_first : (sender : Station) (form : ℕ) (l : List Vehicle) {n : ℕ} → n ≡ length l
+    → MatchOption (position (λ i. is_named sender form (get_or l i unused)) (range_with_len 0 n)) (find_of sender form l ≡ length l) (λ i. (find_of sender form l ≡ i) × (i < length l))
+find_first sender form l {n} size =
+    let first : position_or_len (λ j. is_named sender form (get_or l j unused)) (range_with_len 0 (length l)) ≡ find_of sender form l =
+    find_from sender form l l 0 (λ k. ap (λ j. get_or l j unused) (omega arith)) in
+    rw (size, first, length-range_with_len 0 (length l)) (by (ltb (find_of sender form l) (length l)) refl (find_most sender form l))
+  where
+    by : (inside : Bool) {f m : ℕ} → ltb f m ≡ inside → f ≤ m → MatchOption (cond inside (Some f) None) (f ≡ m) (λ i. (f ≡ i) × (i < m))
+    by true {f} {m} e most = (refl, ltb-true f m e)
+    by false {f} {m} e most = omega (arith, ltb-false f m e)
 
 -- two that may meet are both present
 pub may_meet_in : (l : List Vehicle) (i : ℕ) → may_meet l i ≡ true → i + 1 < length l

@@ -1,9 +1,9 @@
 -- Words written out: the figures one by one, so that each is read back where it was put, and the ring behind them.
 -- Assumes nothing.
-use Prim.Native.Nat.{suc, zero, ℕ, ◌+◌, ◌<◌, ◌≤◌}
+use Prim.Native.Nat.{suc, zero, ℕ, ◌+◌, ◌≤◌}
 use Rattle.words.specs.Words.{ring_from, ring_in, word_count, words_from}
-use lib.ListN.{drop, get_or, length, length-set, set, take}
-use lib.Seq.{drop-cons, drop-set-add, take-set-lt, take_at}
+use lib.ListN.{drop, get_or, length, set, take}
+use lib.Seq.{drop-cons, take_at}
 use mathlib.Core.List.{List, [], ◌++◌, ◌∷◌}
 use mathlib.Core.Path.{ap, refl, sym, ◌∙◌, ◌≡◌}
 use native.Mathlib.Nat.{add-zero}
@@ -21,13 +21,8 @@ words_count i zero w = refl
 words_count i (suc n) w = ap suc (words_count (i + 1) n w)
 
 -- a word of some, stored
-taken : (i n : ℕ) (w : List ℕ) → i + n ≤ length w → words_from i n w ≡ take n (drop i w)
+pub taken : (i n : ℕ) (w : List ℕ) → i + n ≤ length w → words_from i n w ≡ take n (drop i w)
 taken i n w long = sym (ap (take n) (first_words i n w long) ∙ take_at (words_from i n w) (drop (i + n) w) n (words_count i n w))
-
-pub words-set : (i n : ℕ) (w : List ℕ) (k v : ℕ) → i + n ≤ length w → k < n → words_from i n (set w (i + k) v) ≡ set (words_from i n w) k v
-words-set i n w k v fits inside =
-    taken i n (set w (i + k) v) (omega (arith, length-set w (i + k) v)) ∙ ap (take n) (drop-set-add i w k v) ∙ take-set-lt n (drop i w) k v inside
-    ∙ ap (λ t. set t k v) (sym (taken i n w fits))
 
 abbrev pub written : List ℕ → List ℕ
 written w = words_from 0 ring_from w ++ ring_in w

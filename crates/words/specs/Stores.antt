@@ -1,5 +1,5 @@
 -- What a store within this crate alters, as its functions tell one another.
-use Rattle.std.specs.Prelude.{List, drop, get_or, length, set, take, ℕ, ◌%◌, ◌*◌, ◌+◌, ◌<◌, ◌≡◌}
+use Rattle.std.specs.Prelude.{List, drop, get_or, length, set, take, ℕ, ◌%◌, ◌*◌, ◌+◌, ◌≡◌}
 use Rattle.words.specs.Words.{desk_from, desk_words_in, first_word, ring_from, second_word, slots, start_in, start_on, start_place, vehicle_in, word_count}
 use Rattle.working.specs.WellMade.{desk_length}
 use Rattle.working.specs.declared.Station.TheVariants.{A, B}
@@ -33,8 +33,7 @@ abbrev pub end_slot : Station → ℕ → ℕ → ℕ
 end_slot A start others = start
 end_slot B start others = (start + others) % slots
 
--- the ring's start is moved n slots on at A's end, and is now at a slot
+-- the ring's start is moved n slots on at A's end
 pub record StartMoved (before after : List ℕ) (x : Station) (n start : ℕ) : Type 0 where
   pub stored : after ≡ set before start_place (start_word x n before)
   pub at : start ≡ start_on x (start_in before) n
-  pub inside : start < slots

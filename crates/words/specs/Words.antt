@@ -11,7 +11,7 @@
 -- A slot's first word, from its low end: form number (two bytes), sender, heading, met (1 or 0), class (a byte each).
 -- Its second word: what the vehicle left on (0 OPEN, 1 THROUGH, 2 RETURN, 3 TRAIN, 4 a TRAIN endorsed as the last), granted, asked, given up (a byte each). Two zeros
 -- are an unused place.
-use Rattle.std.specs.Prelude.{Bool, List, [], drop, eqb, false, get_or, min, suc, true, zero, ℕ, ◌%◌, ◌*◌, ◌++◌, ◌+◌, ◌-◌, ◌/◌, ◌^◌, ◌∷◌, ◌≡◌, ◌≤◌}
+use Rattle.std.specs.Prelude.{Bool, List, None, Option, Some, [], drop, eqb, false, get_or, min, suc, true, zero, ℕ, ◌%◌, ◌*◌, ◌++◌, ◌+◌, ◌-◌, ◌/◌, ◌^◌, ◌∷◌, ◌≡◌, ◌≤◌}
 use Rattle.working.specs.Reasons.{find_of, may_meet}
 pub use Rattle.working.specs.Sections.{with_clears, with_guest, with_out, with_waiting}
 use Rattle.working.specs.Effects.{received}
@@ -20,16 +20,12 @@ use Rattle.working.specs.Steps.{met_at}
 use Rattle.working.specs.WellMade.{desk_figures, desk_length, numbers_of, one_if}
 use Rattle.working.specs.declared.Counts.{Counts}
 use Rattle.working.specs.declared.Desk.{Desk}
-use Rattle.working.specs.declared.Interval.TheVariants.{Since, Stopped}
-use Rattle.working.specs.declared.Interval.{Interval}
 use Rattle.working.specs.declared.Movement.TheVariants.{LastTrain, Open, Return, Through, Train}
 use Rattle.working.specs.declared.Movement.{Movement}
 use Rattle.working.specs.declared.Section.{Section}
 use Rattle.working.specs.declared.Station.TheVariants.{A, B}
 use Rattle.working.specs.declared.Station.{Station}
 use Rattle.working.specs.declared.Vehicle.{Vehicle}
-use Rattle.working.specs.declared.Whose.TheVariants.{NoStation, Of}
-use Rattle.working.specs.declared.Whose.{Whose}
 
 -- ---- how many words
 
@@ -148,9 +144,9 @@ one_back = slots - 1
 
 -- ---- a desk
 
-abbrev pub interval_in : ℕ → Interval
-interval_in zero = Stopped
-interval_in (suc minute) = Since (minute % 65536)
+abbrev pub interval_in : ℕ → Option ℕ
+interval_in zero = None
+interval_in (suc minute) = Some (minute % 65536)
 
 abbrev pub desk_read : List ℕ → Desk
 desk_read t = record {
@@ -177,14 +173,14 @@ desk_in w x = desk_read (desk_words_in w x)
 -- ---- the counts
 
 -- the place of a count, and what it is
-abbrev pub count_place : Whose → ℕ
+abbrev pub count_place : Option Station → ℕ
 count_place whose = counts_from + place_of whose
 
-abbrev pub count_in : List ℕ → Whose → ℕ
+abbrev pub count_in : List ℕ → Option Station → ℕ
 count_in w whose = get_or w (count_place whose) 0 % 4294967296
 
 abbrev pub counts_in : List ℕ → Counts
-counts_in w = record { a = count_in w (Of A); b = count_in w (Of B); none = count_in w NoStation }
+counts_in w = record { a = count_in w (Some A); b = count_in w (Some B); none = count_in w None }
 
 abbrev pub count_words : Counts → List ℕ
 count_words c = c.a ∷ c.b ∷ c.none ∷ []
@@ -254,7 +250,7 @@ with_sent sent d = with_entered d.clock d.last sent d.interval d
 
 -- a departure takes a form number and starts the interval; a receipt stops it
 abbrev pub with_departure : ℕ → ℕ → ℕ → Desk → Desk
-with_departure time form sent = with_entered time form sent (Since time)
+with_departure time form sent = with_entered time form sent (Some time)
 
 abbrev pub with_receipt : ℕ → ℕ → Desk → Desk
 with_receipt time sent d = received d time sent

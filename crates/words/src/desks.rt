@@ -3,13 +3,11 @@ ghost use Rattle.std.specs.Prelude.{length, set, ◌<◌, ◌≡◌, ◌≤◌};
 ghost use Rattle.words.specs.Stores.{DeskPut};
 ghost use Rattle.words.specs.Words.{Becomes, DeskBecomes, RingKept, section_in, start_in, start_place, with_clock, with_departure, with_receipt, with_sent};
 ghost use Rattle.words.specs.Words.{count_in, count_place, desk_from, desk_read, interval_in};
-ghost use Rattle.working.specs.Sections.{count_refusal, desk_of, one_more, with_clears, with_entered, with_guest, with_interval, with_out, with_waiting};
+ghost use Rattle.working.specs.Sections.{count_refusal, desk_of, with_clears, with_entered, with_guest, with_out, with_waiting};
 ghost use Rattle.working.specs.WellMade.{desk_length};
-ghost use Rattle.working.specs.declared.Interval.TheVariants.{Stopped};
 ghost use Rattle.working.specs.declared.Station.TheVariants.{B};
 
-use crate::vehicles::{BYTE, TWO_BYTES, word_if};
-use working::{Clears, Counts, Desk, Interval, Station, Whose};
+use working::{Clears, Counts, Desk, Station, interval_number};
 
 pub(crate) const LEN: usize = 0;
 
@@ -56,9 +54,14 @@ pub(crate) const SLOT_LENGTH: usize = 2;
 
 pub const WORDS: usize = RING + SLOT_LENGTH * SLOTS;
 
+// Numbers at fixed places, and no struct: a host lends them as plain numbers (`section_words` of lupinshift), and specs/Words.antt gives each its place.
 pub type Words = [u64; WORDS];
 
-// One more than the largest count.
+// One more than the largest number of 8 and of 16 bits, and than the largest count.
+const BYTE: u64 = 256;
+
+const TWO_BYTES: u64 = BYTE * BYTE;
+
 const COUNTS: u64 = Counts::LARGEST as u64 + 1;
 
 // Where a station's words begin.
@@ -71,26 +74,24 @@ fn desk_from(at: Station) -> usize
     }
 }
 
-// 0 where no interval is running, else one more than the minute of the last departure.
-fn interval_in(word: u64) -> Interval
+// 0 where no interval is running, else one more than the minute of the last departure: the form that specs/Words.antt gives.
+fn interval_in(word: u64) -> Option<u16>
     ensures { result ≡ interval_in word }
 {
-    if word == 0 {
-        return Interval::Stopped;
-    }
-    Interval::Since(((word - 1) % TWO_BYTES) as u16)
+    word.checked_sub(1)
+        .map(|minute| (minute % TWO_BYTES) as u16)
 }
 
-// The figures of a desk in words, the first of them, but for the interval.
-fn stopped_in(words: &[u64]) -> Desk
+// The figures of a desk in words, the first of them.
+fn desk_in(words: &[u64]) -> Desk
     requires { desk_length ≤ length words.now }
-    ensures { result ≡ with_interval Stopped (desk_read words.now) }
+    ensures { result ≡ desk_read words.now }
 {
     Desk {
         clock: (words[CLOCK] % TWO_BYTES) as u16,
         last: (words[LAST] % TWO_BYTES) as u16,
         sent: (words[SENT] % BYTE) as u8,
-        interval: Interval::Stopped,
+        interval: interval_in(words[INTERVAL]),
         out: words[OUT] == 1,
         guest: (words[GUEST] % BYTE) as u8,
         clears: Clears {
@@ -102,51 +103,43 @@ fn stopped_in(words: &[u64]) -> Desk
     }
 }
 
-fn desk_in(words: &[u64]) -> Desk
-    requires { desk_length ≤ length words.now }
-    ensures { result ≡ desk_read words.now }
-{
-    let stopped = stopped_in(words);
-    let interval = interval_in(words[INTERVAL]);
-    Desk {
-        interval,
-        ..stopped
-    }
-}
-
 // The desk of a station.
 pub fn desk(words: &Words, at: Station) -> Desk
     ensures { result ≡ desk_of (section_in words.now) at }
 {
-    let all = &words[..];
-    let from = desk_from(at);
-    desk_in(&all[from..])
+    desk_in(&words[desk_from(at)..])
 }
 
-// A word of a desk is replaced. Seen as a slice, the array shows the proof how many its words are.
+// A word of a desk is replaced. The words and the station stay two arguments: callers hold the words alone, so that each function below would build a struct of both for one line.
 fn put(words: &mut Words, at: Station, figure: usize, word: u64)
     requires { figure < desk_length }
     ensures { DeskPut words.old words.new at (λ t. set t figure word) }
 {
-    let _ = &words[..];
     words[desk_from(at) + figure] = word;
 }
 
 // The minute of the last entry, the last form number, the departures counted and the interval.
-fn put_entered(words: &mut Words, at: Station, clock: u16, last: u16, sent: u8, interval: Interval)
+fn put_entered(
+    words: &mut Words,
+    at: Station,
+    clock: u16,
+    last: u16,
+    sent: u8,
+    interval: Option<u16>,
+)
     ensures { DeskBecomes words.old words.new at (with_entered clock last sent interval) × RingKept words.old words.new }
 {
     put(words, at, CLOCK, clock as u64);
     put(words, at, LAST, last as u64);
     put(words, at, SENT, sent as u64);
-    put(words, at, INTERVAL, interval.number());
+    put(words, at, INTERVAL, interval_number(interval));
 }
 
 // What every departure alters: the minute, the form number, the departures counted; and the interval runs from that minute.
 pub fn put_departure(words: &mut Words, at: Station, time: u16, form: u16, sent: u8)
     ensures { DeskBecomes words.old words.new at (with_departure time form sent) × RingKept words.old words.new }
 {
-    put_entered(words, at, time, form, sent, Interval::Since(time));
+    put_entered(words, at, time, form, sent, Some(time));
 }
 
 // What every receipt alters: the minute, the departures counted; and no interval is running.
@@ -176,7 +169,7 @@ pub fn put_sent(words: &mut Words, at: Station, count: u8)
 pub fn put_out(words: &mut Words, at: Station, out: bool)
     ensures { DeskBecomes words.old words.new at (with_out out) }
 {
-    put(words, at, OUT, word_if(out));
+    put(words, at, OUT, u64::from(out));
 }
 
 // The class of the other station's opener standing here; 0 is none.
@@ -206,68 +199,51 @@ pub fn put_waiting(words: &mut Words, at: Station, waiting: u8)
 pub fn put_desk(words: &mut Words, at: Station, d: Desk)
     ensures { DeskBecomes words.old words.new at (λ _. d) × RingKept words.old words.new }
 {
-    let _ = &words[..];
-    let figures = d.figures();
-    let mut i = 0;
-    while i < Desk::FIGURES {
-        put(words, at, i, figures[i]);
-        i += 1;
-    }
+    let from = desk_from(at);
+    words[from..from + Desk::FIGURES].copy_from_slice(&d.figures());
 }
 
 // The place of the count that a refusal belongs to.
-fn count_place(whose: Whose) -> usize
+fn count_place(whose: Option<Station>) -> usize
     ensures { (result ≡ count_place whose) × (result < start_place) }
 {
     match whose {
-        Whose::Of(at) => match at {
-            Station::A => REFUSED_A,
-            Station::B => REFUSED_B,
-        },
-        Whose::NoStation => REFUSED_NONE,
+        Some(Station::A) => REFUSED_A,
+        Some(Station::B) => REFUSED_B,
+        None => REFUSED_NONE,
     }
 }
 
 // What is counted there.
-fn count(words: &Words, whose: Whose) -> u32
+fn count(words: &Words, whose: Option<Station>) -> u32
     ensures { result ≡ count_in words.now whose }
 {
     (words[count_place(whose)] % COUNTS) as u32
 }
 
-// A count with one more, up to its largest value.
-fn one_more(count: u32) -> u32
-    ensures { result ≡ one_more count }
-{
-    if count < Counts::LARGEST {
-        count + 1
-    } else {
-        count
-    }
-}
-
 // Entries refused for A, for B, and of no station.
+#[tactic(auto, unfolding(crate::specs::Words::section_in))]
 pub fn refused(words: &Words) -> Counts
     ensures { result ≡ (section_in words.now).refused }
 {
     Counts {
-        a: count(words, Whose::Of(Station::A)),
-        b: count(words, Whose::Of(Station::B)),
-        none: count(words, Whose::NoStation),
+        a: count(words, Some(Station::A)),
+        b: count(words, Some(Station::B)),
+        none: count(words, None),
     }
 }
 
 // One more entry is refused: one more in the count that it belongs to, which stops at its own largest value.
-pub fn count_refusal(words: &mut Words, whose: Whose)
+pub fn count_refusal(words: &mut Words, whose: Option<Station>)
     ensures { Becomes words.old words.new (count_refusal whose (section_in words.old)) (start_in words.old)
         × RingKept words.old words.new }
 {
-    let _ = &words[..];
-    let more = one_more(count(words, whose));
+    let more = count(words, whose).saturating_add(1);
     words[count_place(whose)] = more as u64;
 }
 
 // Whether the working is in force.
+#[tactic(auto, unfolding(crate::specs::Words::section_in))]
 pub fn in_force(words: &Words) -> bool
     ensures { result ≡ (section_in words.now).force }
 {
@@ -275,6 +251,7 @@ pub fn in_force(words: &Words) -> bool
 }
 
 // How many vehicles the section says it has.
+#[tactic(auto, unfolding(crate::specs::Words::section_in))]
 pub fn present(words: &Words) -> usize
     ensures { result ≡ (section_in words.now).len }
 {

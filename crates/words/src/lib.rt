@@ -5,6 +5,7 @@
 mod desks;
 mod kept;
 mod ring;
+mod slot;
 mod vehicles;
 
 pub use desks::{

@@ -1,66 +1,43 @@
 // A vehicle as two words, so that vehicles can be lent and altered where they lie. Two zeros are an unused place. specs/Words.antt has the table.
 ghost use Rattle.std.specs.Prelude.{◌≡◌, ◌≤◌};
 ghost use Rattle.words.specs.Words.{first_word, left_on, movement_in, movement_word, packed, vehicle_in};
-ghost use Rattle.working.specs.WellMade.{one_if};
 
 use working::{Movement, Vehicle};
 
-// One more than the largest number of 8 and of 16 bits.
-pub(crate) const BYTE: u64 = 256;
+// What a vehicle left on, by the numbers that specs/Words.antt gives.
+const OPEN: u8 = 0;
 
-pub(crate) const TWO_BYTES: u64 = BYTE * BYTE;
+const THROUGH: u8 = 1;
 
-// What a figure of the first word is multiplied by; the form number is at the low end.
-const SENDER: u64 = TWO_BYTES;
+const RETURN: u8 = 2;
 
-const HEADING: u64 = SENDER * BYTE;
+const TRAIN: u8 = 3;
 
-const MET: u64 = HEADING * BYTE;
+const LAST_TRAIN: u8 = 4;
 
-const CLASS: u64 = MET * BYTE;
-
-// So in the second word; what the vehicle left on is at the low end.
-const GRANTED: u64 = BYTE;
-
-const ASKED: u64 = GRANTED * BYTE;
-
-const GIVEN_UP: u64 = ASKED * BYTE;
-
-// What a vehicle left on, by number.
-const OPEN: u64 = 0;
-
-const THROUGH: u64 = 1;
-
-const RETURN: u64 = 2;
-
-const TRAIN: u64 = 3;
-
-const LAST_TRAIN: u64 = 4;
-
-// 1 where a test holds, else 0.
-pub(crate) fn word_if(test: bool) -> u64
-    ensures { (result ≡ one_if test) × (result ≤ 1) }
-{
-    if test { 1 } else { 0 }
-}
-
-// Form number, sender, heading, met and class.
+// Form number, sender, heading, met and class, from the low end.
 pub(crate) fn first_word(v: Vehicle) -> u64
     ensures { result ≡ first_word v }
 {
-    v.form as u64
-        + v.sender as u64 * SENDER
-        + v.heading as u64 * HEADING
-        + word_if(v.met) * MET
-        + v.class as u64 * CLASS
+    let [low, high] = v.form.to_le_bytes();
+    u64::from_le_bytes([
+        low,
+        high,
+        v.sender,
+        v.heading,
+        u8::from(v.met),
+        v.class,
+        0,
+        0,
+    ])
 }
 
-// The number of what a vehicle left on, granted, asked and given up.
-fn packed(left: u64, asked: u8, granted: u8, given_up: u8) -> u64
+// The number of what a vehicle left on, granted, asked and given up, from the low end.
+fn packed(left: u8, asked: u8, granted: u8, given_up: u8) -> u64
     requires { left ≤ 4 }
     ensures { (result ≡ packed left asked granted given_up) × (movement_in result ≡ left_on left asked granted given_up) }
 {
-    left + granted as u64 * GRANTED + asked as u64 * ASKED + given_up as u64 * GIVEN_UP
+    u64::from_le_bytes([left, granted, asked, given_up, 0, 0, 0, 0])
 }
 
 // What a vehicle left on, with its figures.
@@ -83,26 +60,17 @@ pub(crate) fn second_word(movement: Movement) -> u64
 fn movement_in(second: u64) -> Movement
     ensures { result ≡ movement_in second }
 {
-    let left_on = second % BYTE;
-    let granted = (second / GRANTED % BYTE) as u8;
-    let asked = (second / ASKED % BYTE) as u8;
-    let given_up = (second / GIVEN_UP % BYTE) as u8;
-    if left_on == OPEN {
-        return Movement::Open { asked };
-    }
-    if left_on == THROUGH {
-        return Movement::Through;
-    }
-    if left_on == RETURN {
-        return Movement::Return { asked, granted };
-    }
-    if left_on == TRAIN {
-        return Movement::Train { asked, granted };
-    }
-    Movement::LastTrain {
-        asked,
-        granted,
-        given_up,
+    let [left, granted, asked, given_up, ..] = second.to_le_bytes();
+    match left {
+        OPEN => Movement::Open { asked },
+        THROUGH => Movement::Through,
+        RETURN => Movement::Return { asked, granted },
+        TRAIN => Movement::Train { asked, granted },
+        _ => Movement::LastTrain {
+            asked,
+            granted,
+            given_up,
+        },
     }
 }
 
@@ -110,12 +78,13 @@ fn movement_in(second: u64) -> Movement
 pub(crate) fn vehicle_in(first: u64, second: u64) -> Vehicle
     ensures { result ≡ vehicle_in first second }
 {
+    let [low, high, sender, heading, met, class, ..] = first.to_le_bytes();
     Vehicle {
         movement: movement_in(second),
-        sender: (first / SENDER % BYTE) as u8,
-        form: (first % TWO_BYTES) as u16,
-        heading: (first / HEADING % BYTE) as u8,
-        met: first / MET % BYTE == 1,
-        class: (first / CLASS % BYTE) as u8,
+        sender,
+        form: u16::from_le_bytes([low, high]),
+        heading,
+        met: met == 1,
+        class,
     }
 }

@@ -1,7 +1,6 @@
 -- Demand 3, one statement about every list of steps from a fresh section; proofs/theorems/Demand3 proves it of every run. In plain words, clause by clause, beside document
 -- 01: docs/THEOREM.md. Its terms are document 01's, and stand in that order in Terms; a list of steps, and its run, in Runs; the step, in Steps.
-use Rattle.std.proofs.Math.Option.{some}
-use Rattle.std.specs.Prelude.{List, true, ℕ, ◌++◌, ◌+◌, ◌<◌, ◌∷◌, ◌≡◌}
+use Rattle.std.specs.Prelude.{List, Some, true, ℕ, ◌++◌, ◌+◌, ◌<◌, ◌∷◌, ◌≡◌}
 use Rattle.working.specs.Acts.{Act}
 use Rattle.working.specs.Runs.{Done, Run, results, results_of}
 use Rattle.working.specs.Sections.{desk_of, fresh, number_at, other_at}
@@ -14,7 +13,7 @@ pub record Demand3 {l : List Done} {s : Section} (run : Run fresh l s) : Type 0 
   -- each step, accepted or refused, has the answer and the section that the definitions fix for it
   pub each : results run ≡ results_of fresh l
   -- every vehicle present has its departure in the list, of the kind that its record says
-  pub departed : (i : ℕ) → i < s.len → (p : Departure) × (departure_of l (vehicle_at s i) ≡ some p) × (p.kind ≡ kind_in (vehicle_at s i).movement)
+  pub departed : (i : ℕ) → i < s.len → (p : Departure) × (departure_of l (vehicle_at s i) ≡ Some p) × (p.kind ≡ kind_in (vehicle_at s i).movement)
   -- any two vehicles heading towards one another both left on T/B 602 at 15 km/h or less
   pub opposed : (i j : ℕ) → i < j → j < s.len → (vehicle_at s i).heading ≡ number_at B → (vehicle_at s j).heading ≡ number_at A
       → (left_slowly (departure_of l (vehicle_at s i)) ≡ true) × (left_slowly (departure_of l (vehicle_at s j)) ≡ true)

@@ -3,9 +3,10 @@
 -- refusal 16 on a TRAIN, and what a receipt makes of holds; T-03 kind 9, which was refusal 2; T-07 a follower's speed, which had one figure; T-08 refusal 11, which a RETURN
 -- could read. What a later request alters is first written out here as it was. The sections are today's. The step makes nothing wait, moves nothing that waits and sends no
 -- vehicle of kind 9, so that from fresh there is none of these; and where there is none `well_made` asks what document 01 asks.
-use Rattle.std.specs.Prelude.{Bool, List, [], cond, eqb, false, ltb, not, true, ℕ, ◌&&◌, ◌<◌, ◌||◌, ◌∷◌, ◌≡◌}
+use Rattle.std.specs.Prelude.{Bool, Err, List, Ok, [], cond, eqb, false, ltb, not, true, ℕ, ◌&&◌, ◌<◌, ◌||◌, ◌∷◌, ◌≡◌}
 use Rattle.working.specs.Acts as acts
 use Rattle.working.specs.Acts.{Act}
+use Rattle.working.specs.Answers.{Answer, accept}
 use Rattle.working.specs.Effects.{Arrive, Depart, Plan, Refuse, effect_of, other_desk, own_desk}
 use Rattle.working.specs.Entries.{entry_in, is_cut}
 use Rattle.working.specs.Events.{At, Bad, Begin, Decoded, Event, Meet, Resume, Says, decode}
@@ -17,8 +18,6 @@ use Rattle.working.specs.Speeds.{follow_figure_01, follows, view_number}
 use Rattle.working.specs.Steps.{done_by, entered, if_made, refused, unless_refused}
 use Rattle.working.specs.Terms.{LAST-TRAIN, kind_in, vehicle_at}
 use Rattle.working.specs.WellMade.{well_made}
-use Rattle.working.specs.declared.Answer.TheVariants as answer
-use Rattle.working.specs.declared.Answer.{Answer}
 use Rattle.working.specs.declared.Desk.{Desk}
 use Rattle.working.specs.declared.Movement.TheVariants.{LastTrain, Open, Return, Through, Train}
 use Rattle.working.specs.declared.Movement.{Movement}
@@ -96,18 +95,18 @@ tests_by ofReturn ofTrain (acts.Train endorsed view asked granted) x force d tim
 tests_by ofReturn ofTrain (acts.Receive sender form) x force d time v = tests_of (acts.Receive sender form) x force d time v
 
 -- a step by which the act of a station comes to this plan; whoever declares, and a MEET, as today
-abbrev pub entered_by : (Act → Station → Bool → Desk → ℕ → Vehicle → Plan) → Section → Event → Stepped
+abbrev pub entered_by : (Act → Station → Bool → Desk → ℕ → Vehicle → Plan) → Section → Event → Stepped Section
 entered_by plan s Begin = entered s Begin
 entered_by plan s (At x time act) = done_by s (Says (At x time act)) x (plan act x s.force (desk_of s x) time (nearest_at x (vehicles_of s)))
 entered_by plan s (Meet x sender form) = entered s (Meet x sender form)
 entered_by plan s Resume = entered s Resume
 
-abbrev pub on_decoded_by : (Act → Station → Bool → Desk → ℕ → Vehicle → Plan) → Section → Decoded → Stepped
+abbrev pub on_decoded_by : (Act → Station → Bool → Desk → ℕ → Vehicle → Plan) → Section → Decoded → Stepped Section
 on_decoded_by plan s (Bad why) = refused s (Bad why) why
 on_decoded_by plan s (Says event) = entered_by plan s event
 
 -- what a step comes to, with its answer altered by `alter` where `so` holds
-abbrev pub altered : Bool → (Answer → Answer) → Stepped → Stepped
+abbrev pub altered : Bool → (Answer → Answer) → Stepped Section → Stepped Section
 altered so alter r = record { answer = cond so (alter r.answer) r.answer; section = r.section }
 
 -- ---- document 01's step
@@ -123,7 +122,7 @@ effect_of_01 (acts.Receive sender form) x d time v = Arrive (arrive_desk_01 x d 
 abbrev pub plan_of_01 : Act → Station → Bool → Desk → ℕ → Vehicle → Plan
 plan_of_01 act x force d time v = unless_refused (first_of (tests_by return_tests_01 train_tests_01 act x force d time v)) (effect_of_01 act x d time v)
 
-unfoldable pub step_of_01 : Section → List ℕ → Stepped
+unfoldable pub step_of_01 : Section → List ℕ → Stepped Section
 step_of_01 s bytes = if_made (well_made s) s (on_decoded_by plan_of_01 s (decode01 bytes))
 
 -- ---- "Lists from fresh once accepted throughout are answered as before"
@@ -137,8 +136,8 @@ with_elsewhere Booked = Booked
 with_elsewhere (Both straight elsewhere) = Both straight elsewhere
 
 abbrev pub with_second_figure : Answer → Answer
-with_second_figure (answer.Refused why) = answer.Refused why
-with_second_figure (answer.Accepted form forms speed) = answer.Accepted form forms (with_elsewhere speed)
+with_second_figure (Err why) = Err why
+with_second_figure (Ok given) = accept given.form given.forms (with_elsewhere given.speed)
 
 -- a follower's step
 abbrev pub is_follower : Section → Decoded → Bool
@@ -149,7 +148,7 @@ is_follower s (Says (Meet x sender form)) = false
 is_follower s (Says Resume) = false
 
 -- a step that gives a follower a second figure, and does all else as another
-abbrev pub followers_two : (Section → List ℕ → Stepped) → Section → List ℕ → Stepped
+abbrev pub followers_two : (Section → List ℕ → Stepped Section) → Section → List ℕ → Stepped Section
 followers_two step s bytes = altered (is_follower s (decode bytes)) with_second_figure (step s bytes)
 
 -- today's step gave each step of a list the answer and the section of document 01's, but that a follower's speed has its second figure beside document 01's; the section at

@@ -1,12 +1,11 @@
 -- Document 01, "Each entry's effect", with T-02 on the reply that a vehicle brings, T-03 on a TRAIN endorsed as the last and T-07 on a follower's speed: speeds, forms,
 -- and the desk after a departure and after a receipt. S is the entry's station, O the other.
-use Rattle.std.specs.Prelude.{Bool, cond, eqb, false, ltb, true, ℕ, ◌+◌, ◌-◌, ◌||◌}
+use Rattle.std.specs.Prelude.{Bool, None, Some, cond, eqb, false, ltb, true, ℕ, ◌+◌, ◌-◌, ◌||◌}
 use Rattle.working.specs.Acts as acts
 use Rattle.working.specs.Acts.{Act}
 use Rattle.working.specs.Sections.{number_at, other_at, with_clears, with_entered, with_guest, with_holds, with_out, with_waiting}
 use Rattle.working.specs.declared.Clears.{Clears}
 use Rattle.working.specs.declared.Desk.{Desk}
-use Rattle.working.specs.declared.Interval.TheVariants.{Since, Stopped}
 use Rattle.working.specs.declared.Movement.TheVariants.{LastTrain, Open, Return, Through, Train}
 use Rattle.working.specs.declared.Movement.{Movement}
 use Rattle.working.specs.declared.Refusal.{Refusal}
@@ -75,7 +74,7 @@ next_form d = d.last + 1
 
 -- "takes the next form number of S, .. adds 1 to sent and starts the interval"
 abbrev pub departed : Desk → ℕ → Desk
-departed d time = with_entered time (next_form d) (d.sent + 1) (Since time) d
+departed d time = with_entered time (next_form d) (d.sent + 1) (Some time) d
 
 -- n where it is above 0, else what stood there
 abbrev pub if_any : ℕ → ℕ → ℕ
@@ -116,7 +115,7 @@ train_movement true holds asked granted = LastTrain asked granted (holds - 1)
 
 -- "stops S's interval"
 abbrev pub received : Desk → ℕ → ℕ → Desk
-received d time sent = with_entered time d.last sent Stopped d
+received d time sent = with_entered time d.last sent None d
 
 -- "S's own OPEN or THROUGH: sent falls by 1, papers cancelled, OPEN clears out." No other of S's own may enter.
 abbrev pub own_desk : Desk → ℕ → Movement → Desk

@@ -7,18 +7,16 @@
 --   253, 267 | 14 each | desk A, desk B
 --
 -- and what a step makes of it for a host program.
-use Rattle.std.specs.Prelude.{Bool, List, [], cond, drop, eqb, false, get_or, length, ltb, not, replicate, suc, take, true, zero, ℕ, ◌%◌, ◌&&◌, ◌*◌, ◌++◌, ◌+◌, ◌/◌, ◌∷◌, ◌≡◌, ◌≤◌}
+use Rattle.std.specs.Prelude.{Bool, Err, List, None, Ok, Option, Some, cond, drop, eqb, false, get_or, length, ltb, not, replicate, suc, take, true, zero}
+use Rattle.std.specs.Prelude.{[], ℕ, ◌%◌, ◌&&◌, ◌*◌, ◌++◌, ◌+◌, ◌/◌, ◌∷◌, ◌≡◌, ◌≤◌}
+use Rattle.working.specs.Answers.{Answer}
 use Rattle.working.specs.Entries.{pasted}
-use Rattle.working.specs.Refusals.{Test, first_of, number_of}
+use Rattle.working.specs.Refusals.{Test, Verdict, first_of, number_of, refusal_in}
 use Rattle.working.specs.Sections.{pad_to, vehicles_of}
 use Rattle.working.specs.Steps.{step_of}
 use Rattle.working.specs.WellMade.{one_if, well_made}
-use Rattle.working.specs.declared.Answer.TheVariants as answer
-use Rattle.working.specs.declared.Answer.{Answer}
 use Rattle.working.specs.declared.Counts.{Counts}
 use Rattle.working.specs.declared.Desk.{Desk}
-use Rattle.working.specs.declared.Interval.TheVariants.{Since, Stopped}
-use Rattle.working.specs.declared.Interval.{Interval}
 use Rattle.working.specs.declared.Movement.TheVariants.{LastTrain, Open, Return, Through, Train}
 use Rattle.working.specs.declared.Movement.{Movement}
 use Rattle.working.specs.declared.Refusal.TheVariants.{BufferTooShort, NoPosition}
@@ -26,8 +24,6 @@ use Rattle.working.specs.declared.Section.{Section}
 use Rattle.working.specs.declared.Speed.TheVariants.{Booked, Both, Kmh, NoSpeed, Walking}
 use Rattle.working.specs.declared.Speed.{Speed}
 use Rattle.working.specs.declared.Vehicle.{Vehicle}
-use Rattle.working.specs.declared.Verdict.TheVariants.{Allowed, Refused}
-use Rattle.working.specs.declared.Verdict.{Verdict}
 
 -- ---- numbers, "high byte first"
 
@@ -111,19 +107,19 @@ unfoldable pub counts_in : List ℕ → Counts
 counts_in bytes = record { a = four_at bytes 0; b = four_at bytes 4; none = four_at bytes 8 }
 
 -- "a 0 (then zeros) or 1 before the interval"
-abbrev pub running_of : Interval → ℕ
-running_of Stopped = 0
-running_of (Since minute) = 1
+abbrev pub running_of : Option ℕ → ℕ
+running_of None = 0
+running_of (Some minute) = 1
 
-abbrev pub minute_of : Interval → ℕ
-minute_of Stopped = 0
-minute_of (Since minute) = minute
+abbrev pub minute_of : Option ℕ → ℕ
+minute_of None = 0
+minute_of (Some minute) = minute
 
-abbrev pub interval_bytes : Interval → List ℕ
+abbrev pub interval_bytes : Option ℕ → List ℕ
 interval_bytes interval = running_of interval ∷ in_two (minute_of interval)
 
-abbrev pub interval_of : ℕ → ℕ → Interval
-interval_of running minute = cond (eqb running 1) (Since minute) Stopped
+abbrev pub interval_of : ℕ → ℕ → Option ℕ
+interval_of running minute = cond (eqb running 1) (Some minute) None
 
 -- fourteen bytes: clock 2, last 2, sent 1, interval 1 + 2, out 1, guest 1, asked 1, holds 1, owes 1, waiting 1
 unfoldable pub desk_bytes : Desk → List ℕ
@@ -184,19 +180,10 @@ speed_number (Kmh n) = 131072 + n
 speed_number Booked = 196608
 speed_number (Both straight elsewhere) = 262144 + 256 * straight + elsewhere
 
--- a call's refusal as a number, 0 where it is allowed; and an answer's, 0 where it is accepted
-abbrev pub refusal_in : Verdict → ℕ
-refusal_in Allowed = 0
-refusal_in (Refused why) = number_of why
-
-abbrev pub refusal_of : Answer → ℕ
-refusal_of (answer.Refused why) = number_of why
-refusal_of (answer.Accepted form forms speed) = 0
-
 -- form number, forms and speed as numbers, at the front of those lent; a refused step leaves them as they were
 abbrev pub answer_in : Answer → List ℕ → List ℕ
-answer_in (answer.Refused why) numbers = numbers
-answer_in (answer.Accepted form forms speed) numbers = pasted numbers 0 (form ∷ forms ∷ speed_number speed ∷ [])
+answer_in (Err why) numbers = numbers
+answer_in (Ok given) numbers = pasted numbers 0 (given.form ∷ given.forms ∷ speed_number given.speed ∷ [])
 
 -- 26, then 23: fewer than three numbers
 abbrev pub step_tests : List ℕ → List ℕ → List Test
@@ -207,14 +194,14 @@ step_tests position numbers =
 
 -- what is refused alters nothing
 abbrev pub if_allowed : {T : Type 0} → Verdict → T → T → T
-if_allowed (Refused why) before after = before
-if_allowed Allowed before after = after
+if_allowed (Err why) before after = before
+if_allowed (Ok _) before after = after
 
 -- The step on a position is the step on its section, written again: the number that it answers, the position after it, and the numbers after it.
 pub record StepsPosition (position entry numbers : List ℕ) (answer : ℕ) (positionAfter numbersAfter : List ℕ) : Type 0 where
   pub answered :
       answer
-      ≡ if_allowed (first_of (step_tests position numbers)) (refusal_in (first_of (step_tests position numbers))) (refusal_of (step_of (section_at position) entry).answer)
+      ≡ if_allowed (first_of (step_tests position numbers)) (refusal_in (first_of (step_tests position numbers))) (refusal_in (step_of (section_at position) entry).answer)
   pub left : positionAfter ≡ if_allowed (first_of (step_tests position numbers)) position (position_of (step_of (section_at position) entry).section)
   pub put : numbersAfter ≡ if_allowed (first_of (step_tests position numbers)) numbers (answer_in (step_of (section_at position) entry).answer numbers)
 
@@ -231,7 +218,7 @@ ReadThenWritten = (bytes : List ℕ) → is_position bytes ≡ true → (length 
 -- The step on a section's position leaves the position of the section after it.
 abbrev pub StepWritten : Type 0
 StepWritten = (s : Section) → length s.vehicles ≡ 24 → well_made s ≡ true → (entry numbers : List ℕ) → 3 ≤ length numbers
-    → StepsPosition (position_of s) entry numbers (refusal_of (step_of s entry).answer) (position_of (step_of s entry).section) (answer_in (step_of s entry).answer numbers)
+    → StepsPosition (position_of s) entry numbers (refusal_in (step_of s entry).answer) (position_of (step_of s entry).section) (answer_in (step_of s entry).answer numbers)
 
 -- Two speeds that have the same number are the same, of figures that are bytes.
 abbrev pub is_figures : Speed → Bool

@@ -1,6 +1,6 @@
 -- Document 01, "Reasons by who causes them", with T-02 on refusal 16, T-03 on kind 9 and T-08 on refusal 11: what each kind is refused for, in rising order.
 -- Refusals 1 to 4 stand in Entries.
-use Rattle.std.specs.Prelude.{Bool, List, [], cond, eqb, false, get_or, leb, length, ltb, not, suc, ℕ, ◌&&◌, ◌++◌, ◌+◌, ◌||◌, ◌∷◌}
+use Rattle.std.specs.Prelude.{Bool, List, None, Option, Some, [], cond, eqb, false, get_or, leb, length, ltb, not, suc, ℕ, ◌&&◌, ◌++◌, ◌+◌, ◌||◌, ◌∷◌}
 use Rattle.working.specs.Acts as acts
 use Rattle.working.specs.Acts.{Act}
 use Rattle.working.specs.Entries.{every}
@@ -8,8 +8,6 @@ use Rattle.working.specs.Refusals.{Test}
 use Rattle.working.specs.Sections.{number_at, unused}
 use Rattle.working.specs.WellMade.{is_open_or_through}
 use Rattle.working.specs.declared.Desk.{Desk}
-use Rattle.working.specs.declared.Interval.TheVariants.{Since, Stopped}
-use Rattle.working.specs.declared.Interval.{Interval}
 use Rattle.working.specs.declared.Refusal.TheVariants.{AlreadyInForce, BeforeClock, FormsUsed, GrantNotAllowed, GuestHere, HoldsLineClear, IntervalRunning, MayNotEnter}
 use Rattle.working.specs.declared.Refusal.TheVariants.{MayNotMeet, NoGuest, NoLineClear, NotInForce, NotNearest, OpenerAway, OwesLineClear, TwelveSent, VehiclePresent}
 use Rattle.working.specs.declared.Station.{Station}
@@ -29,9 +27,9 @@ resume_tests force present =
 -- ---- the station master
 
 -- "19 interval running, under 30 minutes"
-abbrev pub is_under : Interval → ℕ → Bool
-is_under Stopped time = false
-is_under (Since minute) time = ltb time (minute + 30)
+abbrev pub is_under : Option ℕ → ℕ → Bool
+is_under None time = false
+is_under (Some minute) time = ltb time (minute + 30)
 
 -- every act of a station, whose clock is this, is put to these first
 abbrev pub station_tests : Bool → ℕ → ℕ → List Test
@@ -64,7 +62,7 @@ train_tests d granted =
     ∷ []
 
 -- every departure is put to these last, by how many count, the last form number and the interval
-abbrev pub last_tests : ℕ → ℕ → Interval → ℕ → List Test
+abbrev pub last_tests : ℕ → ℕ → Option ℕ → ℕ → List Test
 last_tests counted last interval time =
     (leb 12 counted, TwelveSent)  -- 17
     ∷ (leb 9999 last, FormsUsed)  -- 18

@@ -1,11 +1,9 @@
 -- Document 01, "Reasons by who causes them": the numbers, and a list of tests that is scanned for the first that holds.
-use Rattle.std.specs.Prelude.{Bool, List, [], false, true, ℕ, ◌∷◌}
+use Rattle.std.specs.Prelude.{Bool, Err, List, Ok, Result, [], false, true, ℕ, ◌∷◌}
 use Rattle.working.specs.declared.Refusal.TheVariants.{AlreadyInForce, BeforeClock, BufferTooShort, EndsInside, FormsUsed, GrantNotAllowed, GuestHere, HoldsLineClear}
 use Rattle.working.specs.declared.Refusal.TheVariants.{IllMade, IntervalRunning, MayNotEnter, MayNotMeet, NoGuest, NoLineClear, NoPosition, NotInForce, NotNearest}
 use Rattle.working.specs.declared.Refusal.TheVariants.{OpenerAway, OutOfRange, OwesLineClear, ShelfFull, TwelveSent, UnknownKind, UnknownName, VehiclePresent, WrongMap}
 use Rattle.working.specs.declared.Refusal.{Refusal}
-use Rattle.working.specs.declared.Verdict.TheVariants.{Allowed, Refused}
-use Rattle.working.specs.declared.Verdict.{Verdict}
 
 -- document 01's number of each refusal, and T-06's
 abbrev pub number_of : Refusal → ℕ
@@ -42,16 +40,25 @@ number_of UnknownName = 24
 number_of ShelfFull = 25
 number_of NoPosition = 26
 
+-- the number of the refusal that something came to, and 0 where it came to none: of a call, of the writer and of an entry's answer
+abbrev pub refusal_in : {T : Type 0} → Result T Refusal → ℕ
+refusal_in (Ok _) = 0
+refusal_in (Err why) = number_of why
+
 -- a test, and the refusal where it holds
 abbrev pub Test : Type 0
 Test = Bool × Refusal
 
+-- what a list of tests comes to: allowed, or the refusal
+abbrev pub Verdict : Type 0
+Verdict = Result (Unit {0}) Refusal
+
 -- the refusal where its test holds, else what the later tests come to
 abbrev pub or_else : Bool → Refusal → Verdict → Verdict
-or_else true why later = Refused why
+or_else true why later = Err why
 or_else false why later = later
 
 -- the first test that holds says why; where none does, the entry is allowed
 abbrev pub first_of : List Test → Verdict
-first_of [] = Allowed
+first_of [] = Ok tt
 first_of (t ∷ later) = or_else t.0 t.1 (first_of later)

@@ -1,17 +1,13 @@
 -- Document 01, "The section": the two stations, the vehicles in order from A to B, the desks, and the fresh section.
-use Rattle.std.specs.Prelude.{Bool, List, [], cond, drop, eqb, false, get_or, length, ltb, suc, take, zero, ℕ, ◌++◌, ◌+◌, ◌-◌, ◌∷◌}
+use Rattle.std.specs.Prelude.{Bool, List, None, Option, Some, [], cond, drop, eqb, false, get_or, length, ltb, suc, take, zero, ℕ, ◌++◌, ◌+◌, ◌-◌, ◌∷◌}
 use Rattle.working.specs.declared.Clears.{Clears}
 use Rattle.working.specs.declared.Counts.{Counts}
 use Rattle.working.specs.declared.Desk.{Desk}
-use Rattle.working.specs.declared.Interval.TheVariants.{Stopped}
-use Rattle.working.specs.declared.Interval.{Interval}
 use Rattle.working.specs.declared.Movement.TheVariants.{Open}
 use Rattle.working.specs.declared.Section.{Section}
 use Rattle.working.specs.declared.Station.TheVariants.{A, B}
 use Rattle.working.specs.declared.Station.{Station}
 use Rattle.working.specs.declared.Vehicle.{Vehicle}
-use Rattle.working.specs.declared.Whose.TheVariants.{NoStation, Of}
-use Rattle.working.specs.declared.Whose.{Whose}
 
 -- "Station 1 is A, 2 is B"
 abbrev pub number_at : Station → ℕ
@@ -60,15 +56,15 @@ nearest_at B l = get_or l (length l - 1) unused
 -- ---- the desks
 
 -- a desk with these in place of its own figures; one that is not among them stays as it was
-abbrev pub with_figures : ℕ → ℕ → ℕ → Interval → Bool → ℕ → Clears → Desk → Desk
+abbrev pub with_figures : ℕ → ℕ → ℕ → Option ℕ → Bool → ℕ → Clears → Desk → Desk
 with_figures clock last sent interval out guest clears d =
     record { clock = clock; last = last; sent = sent; interval = interval; out = out; guest = guest; clears = clears; waiting = d.waiting }
 
 -- what every departure and every receipt alters, and what tells the kinds apart
-abbrev pub with_entered : ℕ → ℕ → ℕ → Interval → Desk → Desk
+abbrev pub with_entered : ℕ → ℕ → ℕ → Option ℕ → Desk → Desk
 with_entered clock last sent interval d = with_figures clock last sent interval d.out d.guest d.clears d
 
-abbrev pub with_interval : Interval → Desk → Desk
+abbrev pub with_interval : Option ℕ → Desk → Desk
 with_interval interval d = with_entered d.clock d.last d.sent interval d
 
 abbrev pub with_out : Bool → Desk → Desk
@@ -98,34 +94,34 @@ with_desk s B d = record { vehicles = s.vehicles; len = s.len; force = s.force; 
 -- ---- the counts of refused entries
 
 -- "Keep three counts: entries refused for A, for B, and those of no station": one of them
-abbrev pub count_of : Counts → Whose → ℕ
-count_of c (Of A) = c.a
-count_of c (Of B) = c.b
-count_of c NoStation = c.none
+abbrev pub count_of : Counts → Option Station → ℕ
+count_of c (Some A) = c.a
+count_of c (Some B) = c.b
+count_of c None = c.none
 
 abbrev pub total : Counts → ℕ
 total c = c.a + c.b + c.none
 
 -- two are the same, told by the place of their count
-abbrev pub place_of : Whose → ℕ
-place_of (Of A) = 0
-place_of (Of B) = 1
-place_of NoStation = 2
+abbrev pub place_of : Option Station → ℕ
+place_of (Some A) = 0
+place_of (Some B) = 1
+place_of None = 2
 
-abbrev pub is_same : Whose → Whose → Bool
+abbrev pub is_same : Option Station → Option Station → Bool
 is_same whose other = eqb (place_of whose) (place_of other)
 
 -- "Each stops at its own largest value."
 abbrev pub one_more : ℕ → ℕ
 one_more n = cond (ltb n 4294967295) (n + 1) n
 
-abbrev pub one_more_of : Whose → Counts → Counts
-one_more_of (Of A) c = record { a = one_more c.a; b = c.b; none = c.none }
-one_more_of (Of B) c = record { a = c.a; b = one_more c.b; none = c.none }
-one_more_of NoStation c = record { a = c.a; b = c.b; none = one_more c.none }
+abbrev pub one_more_of : Option Station → Counts → Counts
+one_more_of (Some A) c = record { a = one_more c.a; b = c.b; none = c.none }
+one_more_of (Some B) c = record { a = c.a; b = one_more c.b; none = c.none }
+one_more_of None c = record { a = c.a; b = c.b; none = one_more c.none }
 
 -- the section with one more entry refused
-abbrev pub count_refusal : Whose → Section → Section
+abbrev pub count_refusal : Option Station → Section → Section
 count_refusal whose s = record { vehicles = s.vehicles; len = s.len; force = s.force; refused = one_more_of whose s.refused; a = s.a; b = s.b }
 
 -- ---- the fresh section
@@ -134,7 +130,7 @@ abbrev pub no_clears : Clears
 no_clears = record { asked = 0; holds = 0; owes = 0 }
 
 abbrev pub fresh_desk : Desk
-fresh_desk = record { clock = 0; last = 0; sent = 0; interval = Stopped; out = false; guest = 0; clears = no_clears; waiting = 0 }
+fresh_desk = record { clock = 0; last = 0; sent = 0; interval = None; out = false; guest = 0; clears = no_clears; waiting = 0 }
 
 abbrev pub none_refused : Counts
 none_refused = record { a = 0; b = 0; none = 0 }

@@ -2,8 +2,8 @@
 -- bytes, 4,688 in all; and what a store and a fetch make of it.
 use Rattle.std.specs.Prelude.{Bool, List, [], cond, drop, eqb, false, leb, length, ltb, not, suc, take, true, zero, ℕ, ◌&&◌, ◌*◌, ◌++◌, ◌||◌, ◌∷◌, ◌≡◌}
 use Rattle.working.specs.Entries.{every, pasted}
-use Rattle.working.specs.Positions.{byte_at, if_allowed, is_position, refusal_in, same_bytes}
-use Rattle.working.specs.Refusals.{Test, first_of}
+use Rattle.working.specs.Positions.{byte_at, if_allowed, is_position, same_bytes}
+use Rattle.working.specs.Refusals.{Test, first_of, refusal_in}
 use Rattle.working.specs.Sections.{pad_with}
 use Rattle.working.specs.declared.Refusal.TheVariants.{BufferTooShort, IllMade, NoPosition, ShelfFull, UnknownName}
 

@@ -1,16 +1,14 @@
 -- Document 01, the end of "Each entry's effect": the terms in which demand 3 is put, in that order, with T-02 and T-03 on line clears. What a list of steps is stands in Runs.
-use Rattle.std.proofs.Math.Option.{Option, none, some}
-use Rattle.std.specs.Prelude.{Bool, List, [], cond, eqb, false, get_or, true, ℕ, ◌%◌, ◌&&◌, ◌∷◌, ◌≡◌}
+use Rattle.std.specs.Prelude.{Bool, Err, List, None, Ok, Option, Some, [], cond, eqb, false, get_or, true, ℕ, ◌%◌, ◌&&◌, ◌∷◌, ◌≡◌}
 use Rattle.working.specs.Acts as acts
 use Rattle.working.specs.Acts.{Act}
+use Rattle.working.specs.Answers.{Answer}
 use Rattle.working.specs.Effects.{granted_in, is_slow}
 use Rattle.working.specs.Events.{At, Bad, Begin, Decoded, Meet, Resume, Says, decode}
 use Rattle.working.specs.Runs.{Done}
 use Rattle.working.specs.Sections.{number_at, other_at, unused, vehicles_of}
 use Rattle.working.specs.Turns.{is_accepted}
 use Rattle.working.specs.WellMade.{is_from, one_if, sum_over}
-use Rattle.working.specs.declared.Answer.TheVariants.{Accepted, Refused}
-use Rattle.working.specs.declared.Answer.{Answer}
 use Rattle.working.specs.declared.Movement.TheVariants.{LastTrain, Open, Return, Through, Train}
 use Rattle.working.specs.declared.Movement.{Movement}
 use Rattle.working.specs.declared.Section.{Section}
@@ -22,8 +20,8 @@ use Rattle.working.specs.declared.Vehicle.{Vehicle}
 
 -- the form number in an answer, 0 in a refusal
 abbrev pub form_in : Answer → ℕ
-form_in (Refused why) = 0
-form_in (Accepted number forms speed) = number
+form_in (Err why) = 0
+form_in (Ok given) = given.form
 
 -- ---- "Two vehicles head towards one another where the one nearer A heads to B and the other to A, neighbours or not."
 
@@ -53,43 +51,43 @@ pub record Departure : Type 0 where
   pub speed : Speed
 
 abbrev pub kind_of : Act → Option Kind
-kind_of (acts.Open view class asked) = some OPEN
-kind_of (acts.Through view) = some THROUGH
-kind_of (acts.Return asked granted) = some RETURN
-kind_of (acts.Train endorsed view asked granted) = some (cond endorsed LAST-TRAIN TRAIN)
-kind_of (acts.Receive sender form) = none
+kind_of (acts.Open view class asked) = Some OPEN
+kind_of (acts.Through view) = Some THROUGH
+kind_of (acts.Return asked granted) = Some RETURN
+kind_of (acts.Train endorsed view asked granted) = Some (cond endorsed LAST-TRAIN TRAIN)
+kind_of (acts.Receive sender form) = None
 
 abbrev pub departure_with : Station → Option Kind → Answer → Option Departure
-departure_with x none answer = none
-departure_with x (some kind) (Refused why) = none
-departure_with x (some kind) (Accepted number forms speed) = some (record { station = x; kind = kind; number = number; forms = forms; speed = speed })
+departure_with x None answer = None
+departure_with x (Some kind) (Err why) = None
+departure_with x (Some kind) (Ok given) = Some (record { station = x; kind = kind; number = given.form; forms = given.forms; speed = given.speed })
 
 -- a step's departure, where it is one and was accepted
 abbrev pub departure_by : Decoded → Answer → Option Departure
-departure_by (Bad why) answer = none
-departure_by (Says Begin) answer = none
+departure_by (Bad why) answer = None
+departure_by (Says Begin) answer = None
 departure_by (Says (At x time act)) answer = departure_with x (kind_of act) answer
-departure_by (Says (Meet x sender form)) answer = none
-departure_by (Says Resume) answer = none
+departure_by (Says (Meet x sender form)) answer = None
+departure_by (Says Resume) answer = None
 
 -- p, where its "station is the vehicle's sender" and its "answer has the vehicle's form number"
 abbrev pub if_of : Vehicle → Option Departure → Option Departure
-if_of v none = none
-if_of v (some p) = cond (eqb (number_at p.station) v.sender && eqb p.number v.form) (some p) none
+if_of v None = None
+if_of v (Some p) = cond (eqb (number_at p.station) v.sender && eqb p.number v.form) (Some p) None
 
 abbrev pub later_or : Option Departure → Option Departure → Option Departure
-later_or (some p) earlier = some p
-later_or none earlier = earlier
+later_or (Some p) earlier = Some p
+later_or None earlier = earlier
 
 -- "A vehicle's departure is the last accepted departure of the list whose station is the vehicle's sender and whose answer has the vehicle's form number."
 abbrev pub departure_of : List Done → Vehicle → Option Departure
-departure_of [] v = none
+departure_of [] v = None
 departure_of (d ∷ l) v = later_or (departure_of l v) (if_of v (departure_by (decode d.bytes) d.answer))
 
 -- "it left on T/B 602 at 15 km/h or less where that answer's forms contain T/B 602 and that answer's speed is 15, 10 or walking pace"; T/B 602 is the 1 of the sum
 abbrev pub left_slowly : Option Departure → Bool
-left_slowly none = false
-left_slowly (some p) = eqb (p.forms % 2) 1 && is_slow p.speed
+left_slowly None = false
+left_slowly (Some p) = eqb (p.forms % 2) 1 && is_slow p.speed
 
 -- ---- line clears
 
@@ -102,8 +100,8 @@ is_train TRAIN = true
 is_train LAST-TRAIN = true
 
 abbrev pub left_on_train : Option Departure → Bool
-left_on_train none = false
-left_on_train (some p) = is_train p.kind
+left_on_train None = false
+left_on_train (Some p) = is_train p.kind
 
 -- a figure of a station's vehicles, 0 of the other's
 abbrev pub of_station : Station → (Vehicle → ℕ) → Vehicle → ℕ
@@ -137,8 +135,8 @@ pub record AcceptedAt (d : Done) (x : Station) (act : Act) : Type 0 where
   pub accepted : is_accepted d.answer ≡ true
 
 abbrev pub is_some : Option Kind → Bool
-is_some none = false
-is_some (some kind) = true
+is_some None = false
+is_some (Some kind) = true
 
 abbrev pub is_departure : Act → Bool
 is_departure act = is_some (kind_of act)

@@ -1,10 +1,8 @@
 -- Document 01, "The section": when a section is well made, clause by clause.
-use Rattle.std.specs.Prelude.{Bool, List, [], cond, drop, eqb, false, leb, length, not, true, ℕ, ◌&&◌, ◌++◌, ◌+◌, ◌||◌, ◌∷◌}
+use Rattle.std.specs.Prelude.{Bool, List, None, Option, Some, [], cond, drop, eqb, false, leb, length, not, true, ℕ, ◌&&◌, ◌++◌, ◌+◌, ◌||◌, ◌∷◌}
 use Rattle.working.specs.Entries.{every}
 use Rattle.working.specs.Sections.{desk_of, fresh_desk, number_at, vehicles_of}
 use Rattle.working.specs.declared.Desk.{Desk}
-use Rattle.working.specs.declared.Interval.TheVariants.{Since, Stopped}
-use Rattle.working.specs.declared.Interval.{Interval}
 use Rattle.working.specs.declared.Movement.TheVariants.{LastTrain, Open, Return, Through, Train}
 use Rattle.working.specs.declared.Movement.{Movement}
 use Rattle.working.specs.declared.Section.{Section}
@@ -96,14 +94,14 @@ abbrev pub numbered : ℕ → ℕ → Vehicle → Bool
 numbered n last v = not (is_from n v) || (leb 1 v.form && leb v.form last)
 
 -- "a running interval is not later than the clock"
-abbrev pub not_later : Interval → ℕ → Bool
-not_later Stopped clock = true
-not_later (Since minute) clock = leb minute clock
+abbrev pub not_later : Option ℕ → ℕ → Bool
+not_later None clock = true
+not_later (Some minute) clock = leb minute clock
 
 -- none is 0, and a minute is one more than itself
-abbrev pub interval_number : Interval → ℕ
-interval_number Stopped = 0
-interval_number (Since minute) = minute + 1
+abbrev pub interval_number : Option ℕ → ℕ
+interval_number None = 0
+interval_number (Some minute) = minute + 1
 
 -- a figure as a number, and its range
 pub data Range : Type 0 where

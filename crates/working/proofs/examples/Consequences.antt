@@ -2,6 +2,7 @@
 -- computes, so that a weaker clause does not give it; then come lists with document 01's figures in numbers.
 -- Assumes nothing.
 use Prim.Native.Nat.{ℕ, ◌%◌, ◌+◌, ◌<◌}
+use Rattle.std.specs.Prelude.{Err, None, Option, Some}
 use Rattle.working.proofs.examples.Computing.{step_computes}
 use Rattle.working.proofs.examples.Literals.{begin, counts, figures, opens, plain, receive, resume, returns, returns_asking, same_section, through, train, train_granting, vehicle, working}
 use Rattle.working.proofs.laws.Lists.{Todo, after, done, runs}
@@ -9,15 +10,13 @@ use Rattle.working.proofs.laws.Tests.{both}
 use Rattle.working.proofs.laws.Vehicles.{other_differs}
 use Rattle.working.proofs.theorems.Demand3.{demand3}
 use Rattle.working.specs.Acts as acts
+use Rattle.working.specs.Answers.{Answer, accept}
 use Rattle.working.specs.Effects.{is_slow}
 use Rattle.working.specs.Entries.{every}
 use Rattle.working.specs.Runs.{Done, Run, StepForm, by_value, in_place, results}
 use Rattle.working.specs.Sections.{desk_of, emptied, fresh, fresh_desk, none_refused, number_at, other_at}
 use Rattle.working.specs.Terms.{AcceptedAt, Departure, Kind, OPEN, RETURN, ReceivesIt, THROUGH, TRAIN, departure_of, given_up_by, is_departure, kind_in, left_slowly, on_the_way_to}
 use Rattle.working.specs.Terms.{trains_of, vehicle_at}
-use Rattle.working.specs.declared.Answer.TheVariants.{Accepted, Refused}
-use Rattle.working.specs.declared.Answer.{Answer}
-use Rattle.working.specs.declared.Interval.TheVariants.{Since, Stopped}
 use Rattle.working.specs.declared.Movement.TheVariants.{Open, Return, Through, Train}
 use Rattle.working.specs.declared.Movement.{Movement}
 use Rattle.working.specs.declared.Refusal.TheVariants.{AlreadyInForce, EndsInside, NoGuest, UnknownKind}
@@ -32,7 +31,6 @@ use borrow.Author.Tests.{eqb-true}
 use lib.Dec.{eqb}
 use mathlib.Core.Bool.{Bool, false, false≢true, true, true≢false, ◌||◌}
 use mathlib.Core.List.{List, [], ◌++◌, ◌∷◌}
-use mathlib.Core.Option.{Option, none, some}
 use mathlib.Core.Path.{ap, refl, sym, ◌∙◌, ◌≡◌}
 use native.Mathlib.Omega.{arith}
 
@@ -78,27 +76,27 @@ following x = running x ++ train_granting (number_at x) 121 3 ∷ []
 -- no bytes, BEGIN, an OPEN: whatever the forms, and whatever answers a run of these bytes is said to have
 each_fixed : {f g h : StepForm} {a b c : Answer} {s : Section}
     (run : Run fresh (handed f [] a ∷ handed g begin b ∷ handed h (opens 1 10 1 2) c ∷ []) s)
-    → results run ≡ record { answer = Refused EndsInside; section = emptied false (counts 0 0 1) }
+    → results run ≡ record { answer = Err EndsInside; section = emptied false (counts 0 0 1) }
     ∷ record { answer = plain; section = emptied true (counts 0 0 1) }
-    ∷ record { answer = Accepted 1 7 (Kmh 15); section = working (counts 0 0 1) (vehicle (Open 2) 1 1 2 false 1 ∷ []) (figures 10 1 1 (Since 10) true 0 0 0 0) fresh_desk }
+    ∷ record { answer = accept 1 7 (Kmh 15); section = working (counts 0 0 1) (vehicle (Open 2) 1 1 2 false 1 ∷ []) (figures 10 1 1 (Some 10) true 0 0 0 0) fresh_desk }
     ∷ []
 unfolding step_computes
 each_fixed run = (demand3 run).each
 
 -- ---- every vehicle present has its departure in the list, of the kind that its record says
 
-no_vehicle_unknown : (l : List Todo) (i : ℕ) → i < (after fresh l).len → left_by l i ≡ none → ⊥
+no_vehicle_unknown : (l : List Todo) (i : ℕ) → i < (after fresh l).len → left_by l i ≡ None → ⊥
 no_vehicle_unknown l i present unknown = let d = (demand3 (runs fresh l)).departed i present in let z : ◌≡◌ {A = ℕ} 0 1 = cc d.1 in omega arith
 
-kind_of_record : (l : List Todo) (i : ℕ) {p : Departure} → i < (after fresh l).len → left_by l i ≡ some p → p.kind ≡ kind_in (there l i).movement
+kind_of_record : (l : List Todo) (i : ℕ) {p : Departure} → i < (after fresh l).len → left_by l i ≡ Some p → p.kind ≡ kind_in (there l i).movement
 kind_of_record l i present left = let d = (demand3 (runs fresh l)).departed i present in cc (d.1, d.2)
 
 -- a vehicle's record, its departure, and that the two are of one kind
 abbrev pub Left : List (List ℕ) → ℕ → Movement → Departure → Type 0
-Left l i movement p = ((there (list l) i).movement ≡ movement) × (left_by (list l) i ≡ some p) × (p.kind ≡ kind_in movement)
+Left l i movement p = ((there (list l) i).movement ≡ movement) × (left_by (list l) i ≡ Some p) × (p.kind ≡ kind_in movement)
 
 pub left : (l : List (List ℕ)) (i n : ℕ) {movement : Movement} {p : Departure}
-    → (after fresh (list l)).len ≡ n → i < n → (there (list l) i).movement ≡ movement → left_by (list l) i ≡ some p → Left l i movement p
+    → (after fresh (list l)).len ≡ n → i < n → (there (list l) i).movement ≡ movement → left_by (list l) i ≡ Some p → Left l i movement p
 left l i n many less record_is left_is = let k = kind_of_record (list l) i (omega arith) left_is in (record_is, left_is, cc)
 
 -- an OPEN and a THROUGH; a RETURN that asks for 3 and grants 2; a TRAIN booked, behind it one at 25 km/h that grants 3
@@ -134,19 +132,19 @@ slowly (p ∷ l) = left_slowly p ∷ slowly l
 
 slow_bounds :
     slowly
-    (some (departure A OPEN 1 7 (Kmh 15))
-    ∷ some (departure B OPEN 1 7 (Kmh 10))
-    ∷ some (departure A OPEN 1 7 Walking)
-    ∷ some (departure B THROUGH 1 1 (Kmh 15))
-    ∷ some (departure A THROUGH 1 1 (Kmh 25))
-    ∷ some (departure A THROUGH 1 1 Booked)
-    ∷ some (departure A THROUGH 1 1 NoSpeed)
-    ∷ some (departure A THROUGH 1 1 (Both 10 10))
-    ∷ some (departure B OPEN 1 7 (Both 15 10))
-    ∷ some (departure A TRAIN 2 104 (Both 10 10))
-    ∷ some (departure A TRAIN 1 104 (Kmh 10))
-    ∷ some (departure A OPEN 1 6 (Kmh 15))
-    ∷ none
+    (Some (departure A OPEN 1 7 (Kmh 15))
+    ∷ Some (departure B OPEN 1 7 (Kmh 10))
+    ∷ Some (departure A OPEN 1 7 Walking)
+    ∷ Some (departure B THROUGH 1 1 (Kmh 15))
+    ∷ Some (departure A THROUGH 1 1 (Kmh 25))
+    ∷ Some (departure A THROUGH 1 1 Booked)
+    ∷ Some (departure A THROUGH 1 1 NoSpeed)
+    ∷ Some (departure A THROUGH 1 1 (Both 10 10))
+    ∷ Some (departure B OPEN 1 7 (Both 15 10))
+    ∷ Some (departure A TRAIN 2 104 (Both 10 10))
+    ∷ Some (departure A TRAIN 1 104 (Kmh 10))
+    ∷ Some (departure A OPEN 1 6 (Kmh 15))
+    ∷ None
     ∷ [])
     ≡ true ∷ true ∷ true ∷ true ∷ false ∷ false ∷ false ∷ false ∷ false ∷ false ∷ false ∷ false ∷ false ∷ []
 unfolding slowly
@@ -173,23 +171,23 @@ abbrev OnTB602 : Departure → Type 0
 OnTB602 p = (p.forms % 2 ≡ 1) × Slow p.speed
 
 opposed_slow : (l : List Todo) (i j : ℕ) {p q : Departure} → i < j → j < (after fresh l).len → (there l i).heading ≡ 2 → (there l j).heading ≡ 1
-    → left_by l i ≡ some p → left_by l j ≡ some q → OnTB602 p × OnTB602 q
+    → left_by l i ≡ Some p → left_by l j ≡ Some q → OnTB602 p × OnTB602 q
 opposed_slow l i j {p} {q} less present to-B to-A p-left q-left =
     let o : (left_slowly (left_by l i) ≡ true) × (left_slowly (left_by l j) ≡ true) =
     (demand3 (runs fresh l)).opposed i j (omega arith) (omega arith) to-B to-A in
     (on p (rw p-left at o.0), on q (rw q-left at o.1))
   where
-    on : (p : Departure) → left_slowly (some p) ≡ true → OnTB602 p
+    on : (p : Departure) → left_slowly (Some p) ≡ true → OnTB602 p
     on p e = let b = both (eqb (p.forms % 2) 1) (is_slow p.speed) e in (eqb-true (p.forms % 2) 1 b.0, slow p.speed b.1)
 
 -- two vehicles heading towards one another, the departures of both, and that both left on T/B 602 at 15 km/h or less
 abbrev Opposed : List (List ℕ) → ℕ → ℕ → Departure → Departure → Type 0
 Opposed l i j p q =
-    ((there (list l) i).heading ≡ 2) × ((there (list l) j).heading ≡ 1) × (left_by (list l) i ≡ some p) × (left_by (list l) j ≡ some q) × OnTB602 p × OnTB602 q
+    ((there (list l) i).heading ≡ 2) × ((there (list l) j).heading ≡ 1) × (left_by (list l) i ≡ Some p) × (left_by (list l) j ≡ Some q) × OnTB602 p × OnTB602 q
 
 opposed : (l : List (List ℕ)) (i j n : ℕ) {p q : Departure} → (after fresh (list l)).len ≡ n → i < j → j < n → (there (list l) i).heading ≡ 2
     → (there (list l) j).heading ≡ 1
-    → left_by (list l) i ≡ some p → left_by (list l) j ≡ some q → Opposed l i j p q
+    → left_by (list l) i ≡ Some p → left_by (list l) j ≡ Some q → Opposed l i j p q
 opposed l i j n many less present to-B to-A p-left q-left =
     let o = opposed_slow (list l) i j less (omega arith) to-B to-A p-left q-left in
     (to-B, to-A, p-left, q-left, o.0, o.1)
@@ -294,10 +292,10 @@ abbrev begins : List Done
 begins = returned begin plain ∷ []
 
 abbrev open_b : Done
-open_b = returned (0x3F ∷ 0x02 ∷ 0x02 ∷ 0x00 ∷ 0x00 ∷ 0x03 ∷ 0x02 ∷ 0x06 ∷ []) (Accepted 1 7 Walking)
+open_b = returned (0x3F ∷ 0x02 ∷ 0x02 ∷ 0x00 ∷ 0x00 ∷ 0x03 ∷ 0x02 ∷ 0x06 ∷ []) (accept 1 7 Walking)
 
 abbrev open_a : Done
-open_a = in_memory (0x3F ∷ 0x02 ∷ 0x01 ∷ 0x00 ∷ 0x00 ∷ 0x03 ∷ 0x04 ∷ 0x05 ∷ []) (Accepted 1 7 Walking)
+open_a = in_memory (0x3F ∷ 0x02 ∷ 0x01 ∷ 0x00 ∷ 0x00 ∷ 0x03 ∷ 0x04 ∷ 0x05 ∷ []) (accept 1 7 Walking)
 
 abbrev back_b : Done
 back_b = in_memory (0x87 ∷ 0x06 ∷ 0x02 ∷ 0x00 ∷ 0x02 ∷ 0x02 ∷ 0x00 ∷ 0x01 ∷ []) plain
@@ -330,17 +328,17 @@ departures_exchanged =
 -- behind them come B's receipt of the second, bytes that are no entry, a THROUGH of B, RETURNs with no guest, two of B and one of A, and BEGIN again.
 abbrev one_sent : List Done
 one_sent =
-    in_memory [] (Refused EndsInside)
+    in_memory [] (Err EndsInside)
     ∷ returned begin plain
-    ∷ in_memory (opens 1 0 1 2) (Accepted 1 7 (Kmh 15))
+    ∷ in_memory (opens 1 0 1 2) (accept 1 7 (Kmh 15))
     ∷ returned (receive 2 60 1 1) plain
-    ∷ in_memory (returns 2 61 2) (Accepted 1 180 Booked)
+    ∷ in_memory (returns 2 61 2) (accept 1 180 Booked)
     ∷ returned (receive 1 90 2 1) plain
-    ∷ in_memory (train 1 91) (Accepted 2 168 Booked)
+    ∷ in_memory (train 1 91) (accept 2 168 Booked)
     ∷ []
 
 abbrev second_sent : Done
-second_sent = returned (train 1 121) (Accepted 3 104 (Both 25 10))
+second_sent = returned (train 1 121) (accept 3 104 (Both 25 10))
 
 abbrev first_taken : Done
 first_taken = in_memory (receive 2 115 1 2) plain
@@ -348,12 +346,12 @@ first_taken = in_memory (receive 2 115 1 2) plain
 abbrev behind : List Done
 behind =
     returned (receive 2 150 1 3) plain
-    ∷ in_memory (0 ∷ []) (Refused UnknownKind)
-    ∷ returned (through 2 0 155) (Accepted 2 1 (Kmh 15))
-    ∷ in_memory (returns 2 160 1) (Refused NoGuest)
-    ∷ returned (returns 2 160 1) (Refused NoGuest)
-    ∷ returned (returns 1 160 1) (Refused NoGuest)
-    ∷ in_memory begin (Refused AlreadyInForce)
+    ∷ in_memory (0 ∷ []) (Err UnknownKind)
+    ∷ returned (through 2 0 155) (accept 2 1 (Kmh 15))
+    ∷ in_memory (returns 2 160 1) (Err NoGuest)
+    ∷ returned (returns 2 160 1) (Err NoGuest)
+    ∷ returned (returns 1 160 1) (Err NoGuest)
+    ∷ in_memory begin (Err AlreadyInForce)
     ∷ []
 
 abbrev sent_then_taken : List Todo
@@ -379,16 +377,16 @@ train_and_receipt_exchanged = (
 
 -- a THROUGH of A and one of B in view 3; then A takes its own back while B sends a second; then A receives B's first
 abbrev through_a : Done
-through_a = returned (through 1 0 10) (Accepted 1 1 (Kmh 15))
+through_a = returned (through 1 0 10) (accept 1 1 (Kmh 15))
 
 abbrev through_b : Done
-through_b = in_memory (0x1F ∷ 0x03 ∷ 0x02 ∷ 0x00 ∷ 0x07 ∷ 0x03 ∷ 0x01 ∷ []) (Accepted 1 1 Walking)
+through_b = in_memory (0x1F ∷ 0x03 ∷ 0x02 ∷ 0x00 ∷ 0x07 ∷ 0x03 ∷ 0x01 ∷ []) (accept 1 1 Walking)
 
 abbrev own_at_a : Done
 own_at_a = in_memory (receive 1 11 1 1) plain
 
 abbrev second_b : Done
-second_b = returned (through 2 0 37) (Accepted 2 1 (Kmh 15))
+second_b = returned (through 2 0 37) (accept 2 1 (Kmh 15))
 
 abbrev first_at_a : Done
 first_at_a = in_memory (receive 1 50 2 1) plain
@@ -436,11 +434,11 @@ returns_exchanged run before d e behind x asked granted other = (
 
 -- the sections that these lists end in, in figures
 abbrev ended : Section
-ended = working (counts 1 2 3) (vehicle Through 2 2 1 false 1 ∷ []) (figures 121 3 2 (Since 121) false 0 0 0 0) (figures 155 2 1 (Since 155) false 0 0 0 0)
+ended = working (counts 1 2 3) (vehicle Through 2 2 1 false 1 ∷ []) (figures 121 3 2 (Some 121) false 0 0 0 0) (figures 155 2 1 (Some 155) false 0 0 0 0)
 
 exchanged_ends :
     every
-    (same_section (after fresh taken_back) (working none_refused [] (figures 1 1 0 Stopped false 0 0 0 0) (figures 2 1 0 Stopped false 0 0 0 0))
+    (same_section (after fresh taken_back) (working none_refused [] (figures 1 1 0 None false 0 0 0 0) (figures 2 1 0 None false 0 0 0 0))
     ∷ same_section (after fresh sent_then_taken) ended
     ∷ same_section (after fresh taken_then_sent) ended
     ∷ [])
@@ -451,9 +449,9 @@ exchanged_ends = refl
 -- and those of the two above
 passing_ends :
     every
-    (same_section (after fresh passing) (working none_refused (vehicle Through 2 2 1 false 1 ∷ []) (figures 50 1 0 Stopped false 0 0 0 0) (figures 37 2 2 (Since 37) false 0 0 0 0))
+    (same_section (after fresh passing) (working none_refused (vehicle Through 2 2 1 false 1 ∷ []) (figures 50 1 0 None false 0 0 0 0) (figures 37 2 2 (Some 37) false 0 0 0 0))
     ∷ same_section (after fresh opening)
-    (working none_refused (vehicle (Open 5) 1 1 2 false 4 ∷ vehicle Through 2 1 1 false 1 ∷ []) (figures 0 1 1 (Since 0) true 0 0 0 0) (figures 7 1 1 (Since 7) false 0 0 0 0))
+    (working none_refused (vehicle (Open 5) 1 1 2 false 4 ∷ vehicle Through 2 1 1 false 1 ∷ []) (figures 0 1 1 (Some 0) true 0 0 0 0) (figures 7 1 1 (Some 7) false 0 0 0 0))
     ∷ [])
     ≡ true
 unfolding step_computes

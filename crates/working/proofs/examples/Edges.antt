@@ -5,17 +5,16 @@
 -- receipt for each number, and is run by the second program's generator, not written out here.
 -- Assumes nothing.
 use Prim.Native.Nat.{suc, ℕ, ◌+◌}
+use Rattle.std.specs.Prelude.{Err, None, Option, Some}
 use Rattle.working.proofs.examples.Computing.{step_computes}
 use Rattle.working.proofs.examples.Literals.{begin, counts, figures, meet, opens, plain, receive, resume, returns, same_section, through, train, vehicle, working}
+use Rattle.working.specs.Answers.{Answer, accept}
 use Rattle.working.specs.Document01.{decode01, step_of_01}
 use Rattle.working.specs.Entries.{every}
 use Rattle.working.specs.Sections.{fresh, fresh_desk, none_refused}
 use Rattle.working.specs.Steps.{step_of}
 use Rattle.working.specs.WellMade.{well_made}
-use Rattle.working.specs.declared.Answer.TheVariants.{Accepted, Refused}
-use Rattle.working.specs.declared.Answer.{Answer}
 use Rattle.working.specs.declared.Counts.{Counts}
-use Rattle.working.specs.declared.Interval.TheVariants.{Since, Stopped}
 use Rattle.working.specs.declared.Movement.TheVariants.{Open, Return, Through, Train}
 use Rattle.working.specs.declared.Refusal.TheVariants.{BeforeClock, EndsInside, FormsUsed, GrantNotAllowed, IntervalRunning, MayNotEnter, NoGuest, NotNearest, OutOfRange}
 use Rattle.working.specs.declared.Refusal.TheVariants.{TwelveSent, UnknownKind}
@@ -24,10 +23,9 @@ use Rattle.working.specs.declared.Section.{Section}
 use Rattle.working.specs.declared.Speed.TheVariants.{Booked, Both, Kmh, Walking}
 use Rattle.working.specs.declared.Speed.{Speed}
 use Rattle.working.specs.declared.Station.TheVariants.{A, B}
+use Rattle.working.specs.declared.Station.{Station}
 use Rattle.working.specs.declared.Stepped.{Stepped}
 use Rattle.working.specs.declared.Vehicle.{Vehicle}
-use Rattle.working.specs.declared.Whose.TheVariants.{NoStation, Of}
-use Rattle.working.specs.declared.Whose.{Whose}
 use mathlib.Core.Bool.{cond, false, true}
 use mathlib.Core.List.{List, [], ◌∷◌}
 use mathlib.Core.Path.{refl, ◌≡◌}
@@ -43,7 +41,7 @@ abbrev pub after : Section → List (List ℕ) → Section
 after s [] = s
 after s (bytes ∷ l) = after (step_of s bytes).section l
 
-abbrev pub answers_by : (Section → List ℕ → Stepped) → List Edge → List Answer
+abbrev pub answers_by : (Section → List ℕ → Stepped Section) → List Edge → List Answer
 answers_by step [] = []
 answers_by step (r ∷ rows) = (step r.before r.bytes).answer ∷ answers_by step rows
 
@@ -55,7 +53,7 @@ expected_of [] = []
 expected_of (r ∷ rows) = r.expected ∷ expected_of rows
 
 -- the rows, counted from n, that leave another section than the table has
-abbrev pub leaving_another_by : (Section → List ℕ → Stepped) → ℕ → List Edge → List ℕ
+abbrev pub leaving_another_by : (Section → List ℕ → Stepped Section) → ℕ → List Edge → List ℕ
 leaving_another_by step n [] = []
 leaving_another_by step n (r ∷ rows) =
     cond (same_section (step r.before r.bytes).section r.leaves) (leaving_another_by step (suc n) rows) (n ∷ leaving_another_by step (suc n) rows)
@@ -83,7 +81,7 @@ eleven = after begun
 
 -- in force, with A's last form number 9,998 and nothing else
 pub worn : Section
-worn = working none_refused [] (figures 0 9998 0 Stopped false 0 0 0 0) fresh_desk
+worn = working none_refused [] (figures 0 9998 0 None false 0 0 0 0) fresh_desk
 
 -- A1 and B1 opened and met towards B
 pub met : Section
@@ -95,14 +93,14 @@ abbrev pub row : Section → List ℕ → Answer → Section → Edge
 row before bytes expected leaves = record { before = before; bytes = bytes; expected = expected; leaves = leaves }
 
 -- "A refusal adds 1 to the count and alters nothing else": to the one that it belongs to, where that is below its largest value
-abbrev plus_one : Whose → Counts → Counts
-plus_one (Of A) c = counts (c.a + 1) c.b c.none
-plus_one (Of B) c = counts c.a (c.b + 1) c.none
-plus_one NoStation c = counts c.a c.b (c.none + 1)
+abbrev plus_one : Option Station → Counts → Counts
+plus_one (Some A) c = counts (c.a + 1) c.b c.none
+plus_one (Some B) c = counts c.a (c.b + 1) c.none
+plus_one None c = counts c.a c.b (c.none + 1)
 
-abbrev pub refused : Whose → Section → List ℕ → Refusal → Edge
+abbrev pub refused : Option Station → Section → List ℕ → Refusal → Edge
 refused whose s bytes why =
-    row s bytes (Refused why) (record { vehicles = s.vehicles; len = s.len; force = s.force; refused = plus_one whose s.refused; a = s.a; b = s.b })
+    row s bytes (Err why) (record { vehicles = s.vehicles; len = s.len; force = s.force; refused = plus_one whose s.refused; a = s.a; b = s.b })
 
 -- vehicles on the way, unmet: A's OPEN and THROUGH, A's TRAIN, and B's RETURN of a light engine
 abbrev opener : ℕ → ℕ → Vehicle
@@ -121,46 +119,46 @@ replying granted form = vehicle (Return 0 granted) 2 form 1 false 1
 pub edges : Speed → List Edge
 edges follower =
     -- (a) no bytes: 1; map 0: 2
-    refused NoStation fresh [] EndsInside
-    ∷ refused NoStation fresh (0 ∷ []) UnknownKind
+    refused None fresh [] EndsInside
+    ∷ refused None fresh (0 ∷ []) UnknownKind
     -- (b) asked 8 accepted, 9 or a present 0: 4
-    ∷ row begun (opens 1 0 1 8) (Accepted 1 7 (Kmh 15)) (working none_refused (opener 8 1 ∷ []) (figures 0 1 1 (Since 0) true 0 0 0 0) fresh_desk)
-    ∷ refused NoStation begun (opens 1 0 1 9) OutOfRange
-    ∷ refused NoStation begun (opens 1 0 1 0) OutOfRange
+    ∷ row begun (opens 1 0 1 8) (accept 1 7 (Kmh 15)) (working none_refused (opener 8 1 ∷ []) (figures 0 1 1 (Some 0) true 0 0 0 0) fresh_desk)
+    ∷ refused None begun (opens 1 0 1 9) OutOfRange
+    ∷ refused None begun (opens 1 0 1 0) OutOfRange
     -- (c) time equal to the clock accepted, one less: 9
-    ∷ row (after begun (opens 1 10 1 1 ∷ [])) (receive 1 10 1 1) plain (working none_refused [] (figures 10 1 0 Stopped false 0 0 0 0) fresh_desk)
-    ∷ refused (Of A) (after begun (opens 1 10 1 1 ∷ [])) (receive 1 9 1 1) BeforeClock
+    ∷ row (after begun (opens 1 10 1 1 ∷ [])) (receive 1 10 1 1) plain (working none_refused [] (figures 10 1 0 None false 0 0 0 0) fresh_desk)
+    ∷ refused (Some A) (after begun (opens 1 10 1 1 ∷ [])) (receive 1 9 1 1) BeforeClock
     -- (d) follower at 29 minutes: 19, at 30 accepted
-    ∷ refused (Of A) (after holding (train 1 96 ∷ [])) (train 1 125) IntervalRunning
-    ∷ row (after holding (train 1 96 ∷ [])) (train 1 126) (Accepted 3 104 follower)
-    (working none_refused (following 3 ∷ following 2 ∷ []) (figures 126 3 2 (Since 126) false 0 0 0 0) (figures 75 1 1 (Since 75) false 0 0 0 2))
+    ∷ refused (Some A) (after holding (train 1 96 ∷ [])) (train 1 125) IntervalRunning
+    ∷ row (after holding (train 1 96 ∷ [])) (train 1 126) (accept 3 104 follower)
+    (working none_refused (following 3 ∷ following 2 ∷ []) (figures 126 3 2 (Some 126) false 0 0 0 0) (figures 75 1 1 (Some 75) false 0 0 0 2))
     -- (e) twelfth THROUGH with no receipt accepted, thirteenth: 17
-    ∷ row eleven (through 1 1 74) (Accepted 12 1 (Kmh 15))
+    ∷ row eleven (through 1 1 74) (accept 12 1 (Kmh 15))
     (working none_refused
     (engine 12 ∷ engine 11 ∷ engine 10 ∷ engine 9 ∷ engine 8 ∷ engine 7 ∷ engine 6 ∷ engine 5 ∷ engine 4 ∷ engine 3 ∷ engine 2 ∷ engine 1 ∷ [])
-    (figures 330 12 12 (Since 330) false 0 0 0 0) fresh_desk)
-    ∷ refused (Of A) (after eleven (through 1 1 74 ∷ [])) (through 1 1 104) TwelveSent
+    (figures 330 12 12 (Some 330) false 0 0 0 0) fresh_desk)
+    ∷ refused (Some A) (after eleven (through 1 1 74 ∷ [])) (through 1 1 104) TwelveSent
     -- (f) form 9,999 issued, next: 18
-    ∷ row worn (through 1 0 0) (Accepted 9999 1 (Kmh 15)) (working none_refused (engine 9999 ∷ []) (figures 0 9999 1 (Since 0) false 0 0 0 0) fresh_desk)
-    ∷ refused (Of A) (after worn (through 1 0 0 ∷ [])) (through 1 0 30) FormsUsed
+    ∷ row worn (through 1 0 0) (accept 9999 1 (Kmh 15)) (working none_refused (engine 9999 ∷ []) (figures 0 9999 1 (Some 0) false 0 0 0 0) fresh_desk)
+    ∷ refused (Some A) (after worn (through 1 0 0 ∷ [])) (through 1 0 30) FormsUsed
     -- (g) granted equal to asked accepted, one more: 16
-    ∷ row guest (returns 2 75 2) (Accepted 1 180 Booked)
-    (working none_refused (replying 2 1 ∷ []) (figures 10 1 1 (Since 10) true 0 0 0 0) (figures 75 1 1 (Since 75) false 0 0 0 2))
-    ∷ refused (Of B) guest (returns 2 75 3) GrantNotAllowed
+    ∷ row guest (returns 2 75 2) (accept 1 180 Booked)
+    (working none_refused (replying 2 1 ∷ []) (figures 10 1 1 (Some 10) true 0 0 0 0) (figures 75 1 1 (Some 75) false 0 0 0 2))
+    ∷ refused (Some B) guest (returns 2 75 3) GrantNotAllowed
     -- (h) A1 and B1 opened, met towards B: A receiving A1: 21; B receiving A1: 20; B receiving B1 accepted
-    ∷ refused (Of A) met (receive 1 2 1 1) MayNotEnter
-    ∷ refused (Of B) met (receive 2 2 1 1) NotNearest
+    ∷ refused (Some A) met (receive 1 2 1 1) MayNotEnter
+    ∷ refused (Some B) met (receive 2 2 1 1) NotNearest
     ∷ row met (receive 2 2 2 1) plain
-    (working none_refused (vehicle (Open 1) 1 1 2 true 1 ∷ []) (figures 1 1 1 (Since 1) true 0 0 0 0) (figures 2 1 0 Stopped false 0 0 0 0))
+    (working none_refused (vehicle (Open 1) 1 1 2 true 1 ∷ []) (figures 1 1 1 (Some 1) true 0 0 0 0) (figures 2 1 0 None false 0 0 0 0))
     -- (i) RESUME with nothing in the section accepted though a clear is owed
     ∷ row holding resume plain fresh
     -- (j) OPEN in view 3: walking pace
-    ∷ row begun (opens 1 0 3 1) (Accepted 1 7 Walking) (working none_refused (opener 1 1 ∷ []) (figures 0 1 1 (Since 0) true 0 0 0 0) fresh_desk)
+    ∷ row begun (opens 1 0 3 1) (accept 1 7 Walking) (working none_refused (opener 1 1 ∷ []) (figures 0 1 1 (Some 0) true 0 0 0 0) fresh_desk)
     -- (k) RETURN with no guest: 14
-    ∷ refused (Of A) begun (returns 1 0 1) NoGuest
+    ∷ refused (Some A) begun (returns 1 0 1) NoGuest
     -- (l) own opener taken back: OPEN in that minute accepted
-    ∷ row (after begun (opens 1 10 1 1 ∷ receive 1 12 1 1 ∷ [])) (opens 1 12 1 1) (Accepted 2 7 (Kmh 15))
-    (working none_refused (opener 1 2 ∷ []) (figures 12 2 1 (Since 12) true 0 0 0 0) fresh_desk)
+    ∷ row (after begun (opens 1 10 1 1 ∷ receive 1 12 1 1 ∷ [])) (opens 1 12 1 1) (accept 2 7 (Kmh 15))
+    (working none_refused (opener 1 2 ∷ []) (figures 12 2 1 (Some 12) true 0 0 0 0) fresh_desk)
     ∷ []
 
 -- ---- every row holds: the answers, and the sections after them in every figure
@@ -182,10 +180,10 @@ edges_hold_01 = (refl, refl)
 pub edges_find :
     every
     (same_section begun (working none_refused [] fresh_desk fresh_desk)
-    ∷ same_section guest (working none_refused [] (figures 10 1 1 (Since 10) true 0 0 0 0) (figures 70 0 0 Stopped false 1 2 0 0))
-    ∷ same_section holding (working none_refused [] (figures 95 1 0 Stopped false 0 0 2 0) (figures 75 1 1 (Since 75) false 0 0 0 2))
+    ∷ same_section guest (working none_refused [] (figures 10 1 1 (Some 10) true 0 0 0 0) (figures 70 0 0 None false 1 2 0 0))
+    ∷ same_section holding (working none_refused [] (figures 95 1 0 None false 0 0 2 0) (figures 75 1 1 (Some 75) false 0 0 0 2))
     ∷ same_section met
-    (working none_refused (vehicle (Open 1) 1 1 2 true 1 ∷ vehicle (Open 1) 2 1 2 true 1 ∷ []) (figures 1 1 1 (Since 1) true 0 0 0 0) (figures 1 1 1 (Since 1) true 0 0 0 0))
+    (working none_refused (vehicle (Open 1) 1 1 2 true 1 ∷ vehicle (Open 1) 2 1 2 true 1 ∷ []) (figures 1 1 1 (Some 1) true 0 0 0 0) (figures 1 1 1 (Some 1) true 0 0 0 0))
     ∷ [])
     ≡ true
 unfolding guest holding met step_computes

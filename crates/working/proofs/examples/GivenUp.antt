@@ -2,6 +2,7 @@
 -- the receiving station owes none, and holds what waited there or what the LAST TRAIN grants. Document 01 refused it with 2. For either station but where A is named.
 -- Assumes nothing.
 use Prim.Native.Nat.{ℕ, ◌+◌}
+use Rattle.std.specs.Prelude.{Err, None, Some}
 use Rattle.working.proofs.examples.Computing.{step_computes}
 use Rattle.working.proofs.examples.Consequences.{Left, Owed, departure, handed, left, list, owed}
 use Rattle.working.proofs.examples.Literals.{figures, last_train, opens_as, plain, receive, returns, returns_asking, same_section, vehicle, working}
@@ -9,6 +10,7 @@ use Rattle.working.proofs.laws.Lists.{after, done, runs}
 use Rattle.working.proofs.laws.Vehicles.{other_differs}
 use Rattle.working.proofs.theorems.Demand3.{demand3}
 use Rattle.working.specs.Acts as acts
+use Rattle.working.specs.Answers.{accept}
 use Rattle.working.specs.Document01.{decode01, step_of_01}
 use Rattle.working.specs.Effects.{way_form}
 use Rattle.working.specs.Entries.{every}
@@ -16,8 +18,6 @@ use Rattle.working.specs.Runs.{Done, Run, accepts_by, by_value, in_place}
 use Rattle.working.specs.Sections.{fresh, none_refused, number_at, other_at, with_waiting}
 use Rattle.working.specs.Steps.{step_of}
 use Rattle.working.specs.Terms.{LAST-TRAIN}
-use Rattle.working.specs.declared.Answer.TheVariants.{Accepted, Refused}
-use Rattle.working.specs.declared.Interval.TheVariants.{Since, Stopped}
 use Rattle.working.specs.declared.Movement.TheVariants.{LastTrain}
 use Rattle.working.specs.declared.Refusal.TheVariants.{UnknownKind}
 use Rattle.working.specs.declared.Speed.TheVariants.{Booked, Both}
@@ -127,8 +127,8 @@ held_at_once B = (owed (last_replies B) A refl, owed (last_replies B) B refl, ow
 in_figures :
     every
     (same_section (after fresh (list (last_behind A)))
-    (working none_refused (vehicle (LastTrain 0 0 5) 1 3 2 false 0 ∷ []) (figures 33 3 2 (Since 33) false 0 0 0 1) (with_waiting 1 (figures 3 1 0 Stopped false 0 5 0 6)))
-    ∷ same_section (after fresh (list (last_in A))) (working none_refused [] (figures 33 3 2 (Since 33) false 0 0 0 1) (figures 6 1 0 Stopped false 0 5 1 0))
+    (working none_refused (vehicle (LastTrain 0 0 5) 1 3 2 false 0 ∷ []) (figures 33 3 2 (Some 33) false 0 0 0 1) (with_waiting 1 (figures 3 1 0 None false 0 5 0 6)))
+    ∷ same_section (after fresh (list (last_in A))) (working none_refused [] (figures 33 3 2 (Some 33) false 0 0 0 1) (figures 6 1 0 None false 0 5 1 0))
     ∷ [])
     ≡ true
 unfolding step_computes
@@ -141,7 +141,7 @@ abbrev first_in : Done
 first_in = handed by_value (receive 2 3 1 2) plain
 
 abbrev last_out : Done
-last_out = handed in_place (last_train 1 33) (Accepted 3 104 (Both 25 10))
+last_out = handed in_place (last_train 1 33) (accept 3 104 (Both 25 10))
 
 abbrev last_arrives : Done
 last_arrives = handed by_value (receive 2 6 1 3) plain
@@ -162,7 +162,7 @@ accepted_throughout A = (refl, refl)
 accepted_throughout B = (refl, refl)
 
 refused-before : (x : Station)
-    → ((step_of_01 (after fresh (list (three_held x))) (last_entry x)).answer ≡ Refused UnknownKind)
+    → ((step_of_01 (after fresh (list (three_held x))) (last_entry x)).answer ≡ Err UnknownKind)
     × (accepts_by step_of_01 fresh (done fresh (list (last_sent x))) ≡ false)
 unfolding decode01 step_computes step_of_01
 refused-before A = (refl, refl)

@@ -2,13 +2,12 @@
 -- what a step does.
 -- Assumes nothing.
 use Prim.Native.Nat.{ℕ}
+use Rattle.std.specs.Prelude.{Option}
+use Rattle.working.specs.Answers.{Answer, accept}
 use Rattle.working.specs.Sections.{fresh_desk, pad_to, with_clears, with_entered, with_figures}
 use Rattle.working.specs.WellMade.{desk_figures, numbers_of}
-use Rattle.working.specs.declared.Answer.TheVariants.{Accepted}
-use Rattle.working.specs.declared.Answer.{Answer}
 use Rattle.working.specs.declared.Counts.{Counts}
 use Rattle.working.specs.declared.Desk.{Desk}
-use Rattle.working.specs.declared.Interval.{Interval}
 use Rattle.working.specs.declared.Movement.TheVariants.{LastTrain, Open, Return, Through, Train}
 use Rattle.working.specs.declared.Movement.{Movement}
 use Rattle.working.specs.declared.Section.{Section}
@@ -61,7 +60,7 @@ meet station sender number = 0x83 ∷ 7 ∷ station ∷ sender ∷ 0 ∷ number 
 
 -- the answer of an entry that hands over no form: "Other kinds 0, form number 0", no speed
 abbrev pub plain : Answer
-plain = Accepted 0 0 NoSpeed
+plain = accept 0 0 NoSpeed
 
 -- ---- a vehicle, in document 01's order: what it left on, with sender, form number, heading, met or not, class
 
@@ -70,7 +69,7 @@ vehicle movement sender form heading met class = record { movement = movement; s
 
 -- ---- a desk, in document 01's order, with nothing waiting, and with one figure put in the place of another
 
-abbrev pub figures : ℕ → ℕ → ℕ → Interval → Bool → ℕ → ℕ → ℕ → ℕ → Desk
+abbrev pub figures : ℕ → ℕ → ℕ → Option ℕ → Bool → ℕ → ℕ → ℕ → ℕ → Desk
 figures clock last sent interval out guest asked holds owes =
     with_figures clock last sent interval out guest (record { asked = asked; holds = holds; owes = owes }) fresh_desk
 

@@ -4,15 +4,14 @@
 -- The paper's figures stand in the rows as they are, so that a misreading that definition and code share shows here.
 -- Assumes nothing.
 use Prim.Native.Nat.{suc, ℕ}
+use Rattle.std.specs.Prelude.{Err, None, Ok, Some}
 use Rattle.working.proofs.examples.Computing.{step_computes}
 use Rattle.working.proofs.examples.Literals.{counts, figures, vehicle, with_asked, with_clock, with_last, with_owes, with_sent, working}
+use Rattle.working.specs.Answers.{Answer}
 use Rattle.working.specs.Refusals.{number_of}
 use Rattle.working.specs.Sections.{fresh_desk, none_refused, number_at, other_at, pad_to, with_guest, with_holds, with_interval, with_out, with_waiting}
 use Rattle.working.specs.Steps.{step_of}
-use Rattle.working.specs.declared.Answer.TheVariants.{Accepted, Refused}
-use Rattle.working.specs.declared.Answer.{Answer}
 use Rattle.working.specs.declared.Desk.{Desk}
-use Rattle.working.specs.declared.Interval.TheVariants.{Since, Stopped}
 use Rattle.working.specs.declared.Movement.TheVariants.{LastTrain, Open, Return, Through, Train}
 use Rattle.working.specs.declared.Movement.{Movement}
 use Rattle.working.specs.declared.Section.{Section}
@@ -29,7 +28,7 @@ use mathlib.Core.Path.{refl, ◌≡◌}
 
 -- a desk at its 40th minute: last form number 5, two sent, the interval running since that minute
 abbrev used : Desk
-used = figures 40 5 2 (Since 40) false 0 0 0 0
+used = figures 40 5 2 (Some 40) false 0 0 0 0
 
 -- in force, with these vehicles and this desk at station x; the other's desk is fresh
 abbrev in_force : Station → List Vehicle → Desk → Section
@@ -63,7 +62,7 @@ full_section =
     ∷ engine B 1 ∷ engine B 2 ∷ engine B 3 ∷ engine B 4 ∷ engine B 5 ∷ engine B 6 ∷ engine B 7 ∷ engine B 8 ∷ engine B 9 ∷ engine B 10 ∷ engine B 11 ∷ engine B 12 ∷ []
 
 abbrev twelve : Desk
-twelve = figures 330 12 12 (Since 330) false 0 0 0 0
+twelve = figures 330 12 12 (Some 330) false 0 0 0 0
 
 -- so many vehicles counted where 24 stand
 abbrev counted : ℕ → Section
@@ -86,7 +85,7 @@ ill_at x =
     ∷ in_force x [] (with_owes 9 used)
     ∷ in_force x [] (with_waiting 9 used)
     -- "a running interval is not later than the clock"
-    ∷ in_force x [] (with_interval (Since 41) used)
+    ∷ in_force x [] (with_interval (Some 41) used)
     -- "each sent is at least that station's vehicles present"
     ∷ in_force x (engine x 5 ∷ []) (with_sent 0 used)
     ∷ in_force x (engine x 4 ∷ engine x 5 ∷ []) (with_sent 1 used)
@@ -129,7 +128,7 @@ ill_at x =
     ∷ idle x (with_clock 1 fresh_desk)
     ∷ idle x (with_last 1 fresh_desk)
     ∷ idle x (with_sent 1 fresh_desk)
-    ∷ idle x (with_interval (Since 0) fresh_desk)
+    ∷ idle x (with_interval (Some 0) fresh_desk)
     ∷ idle x (with_out true fresh_desk)
     ∷ idle x (with_guest 1 fresh_desk)
     ∷ idle x (with_asked 1 fresh_desk)
@@ -172,10 +171,10 @@ ill_made =
 abbrev at_limits_of : Station → List Section
 at_limits_of x =
     -- every figure of a desk at its largest, and the interval at the clock
-    in_force x [] (with_waiting 8 (figures 65535 9999 12 (Since 65535) true 5 8 8 8))
+    in_force x [] (with_waiting 8 (figures 65535 9999 12 (Some 65535) true 5 8 8 8))
     ∷ in_force x [] (with_guest 1 used)
-    ∷ in_force x [] (with_interval (Since 0) used)
-    ∷ in_force x [] (with_interval Stopped used)
+    ∷ in_force x [] (with_interval (Some 0) used)
+    ∷ in_force x [] (with_interval None used)
     ∷ in_force x [] (with_out true used)
     -- sent at least the vehicles present
     ∷ in_force x (engine x 5 ∷ []) (with_sent 1 used)
@@ -217,8 +216,8 @@ at_limits =
 -- ---- the tables hold
 
 abbrev pub number_in : Answer → ℕ
-number_in (Refused why) = number_of why
-number_in (Accepted form forms speed) = 0
+number_in (Err why) = number_of why
+number_in (Ok _) = 0
 
 -- the rows, counted from n, at which no bytes give another answer than this
 abbrev rows_not : ℕ → ℕ → List Section → List ℕ

@@ -2,6 +2,7 @@
 -- entries refused for A, for B and of no station, in figures.
 -- Assumes nothing.
 use Prim.Native.Nat.{ℕ, ◌+◌, ◌≤◌}
+use Rattle.std.specs.Prelude.{None, Some}
 use Rattle.working.proofs.examples.Computing.{turns_compute}
 use Rattle.working.proofs.examples.Literals.{begin, counts, meet, returns}
 use Rattle.working.proofs.theorems.Counted.{logs_counted}
@@ -9,7 +10,6 @@ use Rattle.working.specs.Sections.{fresh}
 use Rattle.working.specs.Turns.{accepted_in, entries_in, refused_in, section_after, single, turns_of}
 use Rattle.working.specs.declared.Counts.{Counts}
 use Rattle.working.specs.declared.Station.TheVariants.{A, B}
-use Rattle.working.specs.declared.Whose.TheVariants.{NoStation, Of}
 use lib.ListN.{length}
 use mathlib.Core.List.{List, [], ◌++◌, ◌∷◌}
 use mathlib.Core.Path.{refl, ◌≡◌}
@@ -20,10 +20,10 @@ counts_after log = (section_after fresh (turns_of single fresh log)).refused
 
 module _ (log : List ℕ) (short : length log ≤ 4294967295) where
   -- "entries refused for A, for B, and those of no station"
-  three_counts : ((counts_after log).a ≡ refused_in (Of A) (turns_of single fresh log))
-      × ((counts_after log).b ≡ refused_in (Of B) (turns_of single fresh log))
-      × ((counts_after log).none ≡ refused_in NoStation (turns_of single fresh log))
-  three_counts = let c = logs_counted log short in (c.each (Of A), c.each (Of B), c.each NoStation)
+  three_counts : ((counts_after log).a ≡ refused_in (Some A) (turns_of single fresh log))
+      × ((counts_after log).b ≡ refused_in (Some B) (turns_of single fresh log))
+      × ((counts_after log).none ≡ refused_in None (turns_of single fresh log))
+  three_counts = let c = logs_counted log short in (c.each (Some A), c.each (Some B), c.each None)
 
   -- entries = accepted + the three
   add_up : entries_in (turns_of single fresh log) ≡ accepted_in (turns_of single fresh log) + ((counts_after log).a + (counts_after log).b + (counts_after log).none)
@@ -36,9 +36,9 @@ refusals = 0 ∷ begin ++ begin ++ returns 1 5 1 ++ returns 2 6 1 ++ returns 1 7
 -- eight entries, one accepted; refused 2 for A, 1 for B and 4 of no station
 refusals_counted : (entries_in (turns_of single fresh refusals) ≡ 8)
     × (accepted_in (turns_of single fresh refusals) ≡ 1)
-    × (refused_in (Of A) (turns_of single fresh refusals) ≡ 2)
-    × (refused_in (Of B) (turns_of single fresh refusals) ≡ 1)
-    × (refused_in NoStation (turns_of single fresh refusals) ≡ 4)
+    × (refused_in (Some A) (turns_of single fresh refusals) ≡ 2)
+    × (refused_in (Some B) (turns_of single fresh refusals) ≡ 1)
+    × (refused_in None (turns_of single fresh refusals) ≡ 4)
     × (counts_after refusals ≡ counts 2 1 4)
 unfolding turns_compute
 refusals_counted = (refl, refl, refl, refl, refl, refl)

@@ -6,10 +6,10 @@ use Rattle.working.proofs.laws.Lists.{Todo, after, done, runs}
 use Rattle.working.proofs.laws.Vehicles.{other_differs}
 use Rattle.working.proofs.theorems.Demand3.{demand3}
 use Rattle.working.specs.Acts as acts
+use Rattle.working.specs.Answers.{accept}
 use Rattle.working.specs.Runs.{Done, Run, by_value, in_place}
 use Rattle.working.specs.Sections.{desk_of, fresh, number_at}
 use Rattle.working.specs.Terms.{AcceptedAt, is_departure, on_the_way_to, vehicle_at}
-use Rattle.working.specs.declared.Answer.TheVariants.{Accepted}
 use Rattle.working.specs.declared.Speed.TheVariants.{Kmh, NoSpeed, Walking}
 use Rattle.working.specs.declared.Station.TheVariants.{A, B}
 use Rattle.working.specs.declared.View.TheVariants.{Clear, Impaired}
@@ -42,13 +42,13 @@ on_the_way = (refl, refl, refl)
 -- ---- two neighbours that change places
 
 abbrev first : Done
-first = record { form = in_place; bytes = opens 1 5 1 2; answer = Accepted 1 7 (Kmh 15) }
+first = record { form = in_place; bytes = opens 1 5 1 2; answer = accept 1 7 (Kmh 15) }
 
 abbrev second : Done
-second = record { form = by_value; bytes = opens 2 9 3 1; answer = Accepted 1 7 Walking }
+second = record { form = by_value; bytes = opens 2 9 3 1; answer = accept 1 7 Walking }
 
 abbrev begins : Done
-begins = record { form = by_value; bytes = begin; answer = Accepted 0 0 NoSpeed }
+begins = record { form = by_value; bytes = begin; answer = accept 0 0 NoSpeed }
 
 is_list : done fresh two ≡ begins ∷ first ∷ second ∷ []
 unfolding step_computes

@@ -2,6 +2,7 @@
 -- that a step reads its first entry alone; and that a log is the list of its own entries.
 -- Assumes nothing.
 use Prim.Native.Nat.{ℕ, ◌+◌, ◌<◌}
+use Rattle.std.specs.Prelude.{Err}
 use Rattle.working.proofs.examples.Computing.{step_computes}
 use Rattle.working.proofs.examples.Consequences.{handed}
 use Rattle.working.proofs.examples.Literals.{begin, opens}
@@ -15,7 +16,6 @@ use Rattle.working.specs.Steps.{step_of}
 use Rattle.working.specs.Terms.{given_up_by, is_train, kind_in, on_the_way_to, trains_of}
 use Rattle.working.specs.Turns.{is_accepted, run_of, section_after, single, turns_of}
 use Rattle.working.specs.WellMade.{is_from}
-use Rattle.working.specs.declared.Answer.TheVariants.{Refused}
 use Rattle.working.specs.declared.Movement.TheVariants.{LastTrain}
 use Rattle.working.specs.declared.Refusal.TheVariants.{IllMade}
 use Rattle.working.specs.declared.Section.{Section}
@@ -29,8 +29,8 @@ use native.Mathlib.Omega.{arith}
 -- ---- of a list from fresh
 
 -- no step of it reads 5, in whatever form and wherever it stands
-none_reads_5 : {s : Section} (before : List Done) (f : StepForm) (bytes : List ℕ) (behind : List Done) → Run fresh (before ++ handed f bytes (Refused IllMade) ∷ behind) s → ⊥
-none_reads_5 before f bytes behind run = false≢true (never_five run before (handed f bytes (Refused IllMade)) behind refl)
+none_reads_5 : {s : Section} (before : List Done) (f : StepForm) (bytes : List ℕ) (behind : List Done) → Run fresh (before ++ handed f bytes (Err IllMade) ∷ behind) s → ⊥
+none_reads_5 before f bytes behind run = false≢true (never_five run before (handed f bytes (Err IllMade)) behind refl)
 
 module _ {l : List Done} {s : Section} (run : Run fresh l s) (x : Station) where
   -- a station that owes nothing has no train of the other nearest

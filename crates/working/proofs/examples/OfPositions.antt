@@ -2,13 +2,14 @@
 -- section's position, whatever numbers are lent; and speeds by their numbers.
 -- Assumes nothing.
 use Prim.Native.Nat.{ℕ, ◌≤◌}
+use Rattle.std.specs.Prelude.{None, Some}
 use Rattle.working.proofs.examples.Computing.{step_computes}
 use Rattle.working.proofs.examples.Literals.{counts, figures, vehicle, working}
 use Rattle.working.proofs.theorems.Positions.{read_then_written, speeds_told, step_written, written_then_read}
-use Rattle.working.specs.Positions.{StepsPosition, answer_in, is_position, position_of, refusal_of, section_at, speed_number}
+use Rattle.working.specs.Positions.{StepsPosition, answer_in, is_position, position_of, section_at, speed_number}
+use Rattle.working.specs.Refusals.{refusal_in}
 use Rattle.working.specs.Sections.{emptied, with_waiting}
 use Rattle.working.specs.Steps.{step_of}
-use Rattle.working.specs.declared.Interval.TheVariants.{Since, Stopped}
 use Rattle.working.specs.declared.Movement.TheVariants.{LastTrain, Open}
 use Rattle.working.specs.declared.Section.{Section}
 use Rattle.working.specs.declared.Speed.TheVariants.{Both, Kmh}
@@ -25,8 +26,8 @@ use native.Mathlib.Omega.{arith}
 abbrev busy : ℕ → ℕ → ℕ → ℕ → Section
 busy a b none clock =
     working (counts a b none) (vehicle (Open 6) 1 0x1207 2 false 3 ∷ vehicle (LastTrain 1 8 6) 2 0x33 1 false 0 ∷ [])
-    (with_waiting 4 (figures clock 0x2105 11 Stopped true 5 7 2 3))
-    (with_waiting 2 (figures 600 0x0103 9 (Since 540) false 1 8 6 7))
+    (with_waiting 4 (figures clock 0x2105 11 None true 5 7 2 3))
+    (with_waiting 2 (figures 600 0x0103 9 (Some 540) false 1 8 6 7))
 
 abbrev idle : ℕ → ℕ → ℕ → Section
 idle a b none = emptied false (counts a b none)
@@ -54,7 +55,7 @@ module _ (bytes : List ℕ) (is : is_position bytes ≡ true) where
 -- what a host's call answers, and leaves, on the position of either section, with three numbers lent or more
 abbrev StepsAs : Section → Type 0
 StepsAs s = (entry numbers : List ℕ) → 3 ≤ length numbers → (answer : ℕ) (position out : List ℕ) → StepsPosition (position_of s) entry numbers answer position out
-    → (answer ≡ refusal_of (step_of s entry).answer) × (position ≡ position_of (step_of s entry).section) × (out ≡ answer_in (step_of s entry).answer numbers)
+    → (answer ≡ refusal_in (step_of s entry).answer) × (position ≡ position_of (step_of s entry).section) × (out ≡ answer_in (step_of s entry).answer numbers)
 
 steps_as : (a b none clock : ℕ) → StepsAs (busy a b none clock) × StepsAs (idle a b none)
 unfolding step_computes
@@ -62,7 +63,7 @@ steps_as a b none clock = (of (busy a b none clock) (step_written (busy a b none
   where
     of : (s : Section)
         → ((entry numbers : List ℕ) → 3 ≤ length numbers
-        → StepsPosition (position_of s) entry numbers (refusal_of (step_of s entry).answer) (position_of (step_of s entry).section) (answer_in (step_of s entry).answer numbers))
+        → StepsPosition (position_of s) entry numbers (refusal_in (step_of s entry).answer) (position_of (step_of s entry).section) (answer_in (step_of s entry).answer numbers))
         → StepsAs s
     of s written entry numbers room answer position out h =
         let w = written entry numbers room in

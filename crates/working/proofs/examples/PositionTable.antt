@@ -2,15 +2,15 @@
 -- speed; and steps on positions, with the order of 26 and 23. The bytes are docs/FORMAT.md's and written by hand, so that a misreading that definition and code share shows here.
 -- Assumes nothing.
 use Prim.Native.Nat.{ℕ, ◌+◌, ◌-◌}
+use Rattle.std.specs.Prelude.{None, Some}
 use Rattle.working.proofs.examples.Computing.{positions_compute}
 use Rattle.working.proofs.examples.EntryTable.{below}
 use Rattle.working.proofs.examples.Literals.{counts, figures, vehicle, working}
 use Rattle.working.specs.Entries.{every}
-use Rattle.working.specs.Positions.{StepsPosition, answer_in, if_allowed, is_position, position_of, refusal_in, refusal_of, section_at, speed_number, step_tests}
-use Rattle.working.specs.Refusals.{first_of}
+use Rattle.working.specs.Positions.{StepsPosition, answer_in, if_allowed, is_position, position_of, section_at, speed_number, step_tests}
+use Rattle.working.specs.Refusals.{first_of, refusal_in}
 use Rattle.working.specs.Sections.{emptied, fresh, fresh_desk, with_waiting}
 use Rattle.working.specs.Steps.{step_of}
-use Rattle.working.specs.declared.Interval.TheVariants.{Since, Stopped}
 use Rattle.working.specs.declared.Movement.TheVariants.{LastTrain, Open, Return, Through, Train}
 use Rattle.working.specs.declared.Section.{Section}
 use Rattle.working.specs.declared.Speed.TheVariants.{Booked, Both, Kmh, NoSpeed, Walking}
@@ -31,8 +31,8 @@ pub record Row : Type 0 where
 abbrev worked_section : Section
 worked_section =
     working (counts 1 0 0) (vehicle (LastTrain 0 2 2) 1 3 2 false 0 ∷ vehicle (Train 0 0) 1 2 2 false 0 ∷ [])
-    (figures 126 3 2 (Since 126) false 0 0 0 2)
-    (figures 75 1 1 (Since 75) false 0 0 0 4)
+    (figures 126 3 2 (Some 126) false 0 0 0 2)
+    (figures 75 1 1 (Some 75) false 0 0 0 4)
 
 abbrev pub worked : List ℕ
 worked =
@@ -56,8 +56,8 @@ all_kinds_section =
     ∷ vehicle (LastTrain 1 8 6) 2 0x0033 1 false 0
     ∷ vehicle Through 2 0x0005 2 true 1
     ∷ [])
-    (with_waiting 4 (figures 0x1234 0x2105 11 (Since 0x0A0B) true 5 7 2 3))
-    (with_waiting 2 (figures 0xFEDC 0x0103 9 Stopped false 1 8 6 7))
+    (with_waiting 4 (figures 0x1234 0x2105 11 (Some 0x0A0B) true 5 7 2 3))
+    (with_waiting 2 (figures 0xFEDC 0x0103 9 None false 1 8 6 7))
 
 abbrev pub all_kinds : List ℕ
 all_kinds =
@@ -76,7 +76,7 @@ all_kinds =
 
 -- a running interval with no opener away, and an opener away with the interval stopped; one that runs since minute 0
 abbrev intervals_section : Section
-intervals_section = working (counts 0 0 0) [] (figures 1 2 3 (Since 0) false 0 0 0 0) (figures 4 5 6 Stopped true 0 0 0 0)
+intervals_section = working (counts 0 0 0) [] (figures 1 2 3 (Some 0) false 0 0 0 0) (figures 4 5 6 None true 0 0 0 0)
 
 abbrev intervals : List ℕ
 intervals =
@@ -105,7 +105,7 @@ joined (bytes ∷ l) = bytes ++ joined l
 
 abbrev twelve_section : Section
 twelve_section =
-    working (counts 0 0 0) (map (engine 1 2) falling ++ map (engine 2 1) rising) (figures 330 12 12 (Since 330) false 0 0 0 0) (figures 331 12 12 (Since 331) false 0 0 0 0)
+    working (counts 0 0 0) (map (engine 1 2) falling ++ map (engine 2 1) rising) (figures 330 12 12 (Some 330) false 0 0 0 0) (figures 331 12 12 (Some 331) false 0 0 0 0)
 
 abbrev twelve : List ℕ
 twelve =
@@ -248,7 +248,7 @@ Steps position entry numbers answer positionAfter numbersAfter = (a : ℕ) (p n 
 steps_as : {position entry numbers : List ℕ} (a : ℕ) (p n : List ℕ) → StepsPosition position entry numbers a p n
     → let v = first_of (step_tests position numbers) in
     let r = step_of (section_at position) entry in
-    (a ≡ if_allowed v (refusal_in v) (refusal_of r.answer)) × (p ≡ if_allowed v position (position_of r.section)) × (n ≡ if_allowed v numbers (answer_in r.answer numbers))
+    (a ≡ if_allowed v (refusal_in v) (refusal_in r.answer)) × (p ≡ if_allowed v position (position_of r.section)) × (n ≡ if_allowed v numbers (answer_in r.answer numbers))
 steps_as a p n h = (h.answered, h.left, h.put)
 
 -- docs/FORMAT.md: before the seventh entry of that log, and between it and the eighth, which is counted

@@ -2,18 +2,19 @@
 -- Document 01 refused it with 16; and of a list that document 01 accepts throughout every answer is as before.
 -- Assumes nothing.
 use Prim.Native.Nat.{ℕ, ◌+◌, ◌<◌}
+use Rattle.std.specs.Prelude.{Err}
 use Rattle.working.proofs.examples.Computing.{step_computes}
 use Rattle.working.proofs.examples.Consequences.{Owed, following, holding, list, owed}
 use Rattle.working.proofs.examples.Literals.{receive, train, train_granting}
 use Rattle.working.proofs.laws.Lists.{after, done, runs}
 use Rattle.working.proofs.theorems.AsBefore.{answered_as_before}
+use Rattle.working.specs.Answers.{accept}
 use Rattle.working.specs.Document01.{decode01, followers_two, step_of_01}
 use Rattle.working.specs.Effects.{way_form}
 use Rattle.working.specs.Runs.{accepts_by, end_by, results, results_by}
 use Rattle.working.specs.Sections.{desk_of, fresh, number_at, other_at}
 use Rattle.working.specs.Steps.{step_of}
 use Rattle.working.specs.Terms.{LAST-TRAIN, kind_in, vehicle_at}
-use Rattle.working.specs.declared.Answer.TheVariants.{Accepted, Refused}
 use Rattle.working.specs.declared.Refusal.TheVariants.{GrantNotAllowed}
 use Rattle.working.specs.declared.Speed.TheVariants.{Booked}
 use Rattle.working.specs.declared.Station.TheVariants.{A, B}
@@ -53,7 +54,7 @@ abbrev replying : Station → List ℕ
 replying x = train_granting (number_at x) 91 3
 
 refused-before : (x : Station)
-    → ((step_of_01 (after fresh (list (holding x))) (replying x)).answer ≡ Refused GrantNotAllowed)
+    → ((step_of_01 (after fresh (list (holding x))) (replying x)).answer ≡ Err GrantNotAllowed)
     × (accepts_by step_of_01 fresh (done fresh (list (ahead x))) ≡ false)
 unfolding decode01 step_computes step_of_01
 refused-before A = (refl, refl)
@@ -64,7 +65,7 @@ unfolding step_computes
 accepted_throughout A = refl
 accepted_throughout B = refl
 
-accepted_now : (x : Station) → (step_of (after fresh (list (holding x))) (replying x)).answer ≡ Accepted 2 (way_form x + 164) Booked
+accepted_now : (x : Station) → (step_of (after fresh (list (holding x))) (replying x)).answer ≡ accept 2 (way_form x + 164) Booked
 unfolding step_computes
 accepted_now A = refl
 accepted_now B = refl

@@ -1,15 +1,16 @@
 -- Sentences of document 01, and of T-01 in document 02, each as one computed equation.
 -- Assumes nothing.
 use Prim.Native.Nat.{ℕ}
+use Rattle.std.specs.Prelude.{Err, None}
 use Rattle.working.proofs.examples.Computing.{reading_computes, step_computes, turns_compute}
 use Rattle.working.proofs.examples.Edges.{after, begun, guest, holding}
 use Rattle.working.proofs.examples.Literals.{begin, counts, meet, opens, opens_as, plain, receive, resume, returns, returns_asking, through, train, vehicle}
+use Rattle.working.specs.Answers.{accept}
 use Rattle.working.specs.Entries.{read_at, written_at}
 use Rattle.working.specs.Sections.{count_refusal, emptied, fresh, fresh_desk, number_at, pad_to}
 use Rattle.working.specs.Steps.{step_of}
 use Rattle.working.specs.Terms.{vehicle_at}
 use Rattle.working.specs.Turns.{answers_in, single, turns_from, turns_of}
-use Rattle.working.specs.declared.Answer.TheVariants.{Accepted, Refused}
 use Rattle.working.specs.declared.Entry.{Entry}
 use Rattle.working.specs.declared.Movement.TheVariants.{Open, Return}
 use Rattle.working.specs.declared.Read.TheVariants as read
@@ -19,8 +20,6 @@ use Rattle.working.specs.declared.Speed.TheVariants.{Kmh}
 use Rattle.working.specs.declared.Station.TheVariants.{A, B}
 use Rattle.working.specs.declared.Station.{Station}
 use Rattle.working.specs.declared.Table.TheVariants.{SingleLine}
-use Rattle.working.specs.declared.Whose.TheVariants.{NoStation}
-use Rattle.working.specs.declared.Written.TheVariants as written
 use mathlib.Core.Bool.{false, true}
 use mathlib.Core.List.{List, [], ◌∷◌}
 use mathlib.Core.Path.{refl, ◌≡◌}
@@ -56,13 +55,13 @@ abbrev beginning : Entry
 beginning = record { map = 1; kind = 1; station = 0; time = 0; view = 0; class = 0; asked = 0; granted = 0; sender = 0; number = 0 }
 
 -- "A refusal adds 1 to the count and alters nothing else"
-refusal_counts : (step_of begun begin).section ≡ count_refusal NoStation begun
+refusal_counts : (step_of begun begin).section ≡ count_refusal None begun
 unfolding step_computes
 refusal_counts = refl
 
 -- "19 interval running, under 30 minutes": at the clock's end too, 15 minutes after a departure at 65,520; and 30 minutes after one at 65,505 it has run
-interval_at_clock_end : ((step_of (after begun (through 1 255 240 ∷ [])) (through 1 255 255)).answer ≡ Refused IntervalRunning)
-    × ((step_of (after begun (through 1 255 225 ∷ [])) (through 1 255 255)).answer ≡ Accepted 2 1 (Kmh 15))
+interval_at_clock_end : ((step_of (after begun (through 1 255 240 ∷ [])) (through 1 255 255)).answer ≡ Err IntervalRunning)
+    × ((step_of (after begun (through 1 255 225 ∷ [])) (through 1 255 255)).answer ≡ accept 2 1 (Kmh 15))
 unfolding step_computes
 interval_at_clock_end = (refl, refl)
 
@@ -96,7 +95,7 @@ unfolding step_computes
 of_no_station = (refl, refl, refl, refl, refl, refl, refl)
 
 -- "5 is tested first", also before no bytes, and alters nothing
-ill_made_first : ((step_of ill []).answer ≡ Refused IllMade) × ((step_of ill []).section ≡ ill)
+ill_made_first : ((step_of ill []).answer ≡ Err IllMade) × ((step_of ill []).section ≡ ill)
 unfolding step_computes
 ill_made_first = (refl, refl)
 
@@ -147,11 +146,11 @@ unfolding turns_from
 no_entries = refl
 
 -- "after 2, 3 or 4 reading goes on behind the entry"; "1 .. reading stops"
-reading_goes_on : answers_in (turns_of single fresh (0 ∷ 3 ∷ 1 ∷ 1 ∷ 1 ∷ 1 ∷ 7 ∷ 7 ∷ [])) ≡ Refused UnknownKind ∷ Refused WrongMap ∷ plain ∷ Refused EndsInside ∷ []
+reading_goes_on : answers_in (turns_of single fresh (0 ∷ 3 ∷ 1 ∷ 1 ∷ 1 ∷ 1 ∷ 7 ∷ 7 ∷ [])) ≡ Err UnknownKind ∷ Err WrongMap ∷ plain ∷ Err EndsInside ∷ []
 unfolding turns_compute
 reading_goes_on = refl
 
 -- "A position past the end gives a reader 1 and a writer 23."
-past_the_end : (read_at SingleLine (1 ∷ 1 ∷ []) 3 ≡ read.Refused EndsInside 3) × (written_at SingleLine (1 ∷ 1 ∷ []) 3 beginning ≡ written.Refused BufferTooShort)
+past_the_end : (read_at SingleLine (1 ∷ 1 ∷ []) 3 ≡ read.Refused EndsInside 3) × (written_at SingleLine (1 ∷ 1 ∷ []) 3 beginning ≡ Err BufferTooShort)
 unfolding reading_computes written_at
 past_the_end = (refl, refl)

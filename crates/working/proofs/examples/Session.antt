@@ -1,11 +1,12 @@
 -- Document 01's session, by computation: each entry's answer, and the section at the end.
 -- Assumes nothing.
 use Prim.Native.Nat.{ℕ}
+use Rattle.std.specs.Prelude.{Err}
 use Rattle.working.proofs.examples.Computing.{turns_compute}
 use Rattle.working.proofs.examples.Literals.{counts}
+use Rattle.working.specs.Answers.{accept}
 use Rattle.working.specs.Sections.{fresh}
 use Rattle.working.specs.Turns.{answers_in, section_after, single, turns_of}
-use Rattle.working.specs.declared.Answer.TheVariants.{Accepted, Refused}
 use Rattle.working.specs.declared.Refusal.TheVariants.{IntervalRunning}
 use Rattle.working.specs.declared.Section.{Section}
 use Rattle.working.specs.declared.Speed.TheVariants.{Booked, Both, Kmh, NoSpeed}
@@ -25,14 +26,14 @@ session =
     ∷ []
 
 the_session : answers_in (turns_of single fresh session) ≡
-    Accepted 0 0 NoSpeed
-    ∷ Accepted 1 7 (Kmh 15)
-    ∷ Accepted 0 0 NoSpeed
-    ∷ Accepted 1 180 Booked
-    ∷ Accepted 0 0 NoSpeed
-    ∷ Accepted 2 168 Booked
-    ∷ Refused IntervalRunning
-    ∷ Accepted 3 104 (Both 25 10)
+    accept 0 0 NoSpeed
+    ∷ accept 1 7 (Kmh 15)
+    ∷ accept 0 0 NoSpeed
+    ∷ accept 1 180 Booked
+    ∷ accept 0 0 NoSpeed
+    ∷ accept 2 168 Booked
+    ∷ Err IntervalRunning
+    ∷ accept 3 104 (Both 25 10)
     ∷ []
 unfolding turns_compute
 the_session = refl

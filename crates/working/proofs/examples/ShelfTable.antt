@@ -5,8 +5,8 @@ use Prim.Native.Nat.{ℕ}
 use Rattle.working.proofs.examples.Computing.{shelves_compute}
 use Rattle.working.proofs.examples.EntryTable.{below}
 use Rattle.working.proofs.examples.PositionTable.{all_kinds, worked}
-use Rattle.working.specs.Positions.{if_allowed, refusal_in}
-use Rattle.working.specs.Refusals.{first_of}
+use Rattle.working.specs.Positions.{if_allowed}
+use Rattle.working.specs.Refusals.{first_of, refusal_in}
 use Rattle.working.specs.Shelves.{Fetches, Stores, fetch_tests, fetched_from, is_name, is_shelf, store_tests, stored_in}
 use lib.ListN.{replicate, set, take}
 use mathlib.Core.Bool.{false, true}

@@ -1,10 +1,11 @@
 -- Short logs of the second program's generator, and the answers that its lister gave, by computation on the definitions.
 -- Written by scripts/stored-logs; never by hand. Assumes nothing.
 use Prim.Native.Nat.{ℕ}
+use Rattle.std.specs.Prelude.{Err}
 use Rattle.working.proofs.examples.Computing.{turns_compute}
+use Rattle.working.specs.Answers.{accept}
 use Rattle.working.specs.Sections.{fresh}
 use Rattle.working.specs.Turns.{answers_in, single, turns_of}
-use Rattle.working.specs.declared.Answer.TheVariants.{Accepted, Refused}
 use Rattle.working.specs.declared.Refusal.TheVariants.{AlreadyInForce, BeforeClock, EndsInside, GrantNotAllowed, GuestHere, HoldsLineClear, IntervalRunning, MayNotEnter, MayNotMeet, NoGuest}
 use Rattle.working.specs.declared.Refusal.TheVariants.{NoLineClear, NotInForce, NotNearest, OpenerAway, OutOfRange, OwesLineClear, UnknownKind, VehiclePresent, WrongMap}
 use Rattle.working.specs.declared.Speed.TheVariants.{Booked, Both, Kmh, NoSpeed, Walking}
@@ -24,12 +25,12 @@ log_0 =
     ∷ []
 
 answers_0 : answers_in (turns_of single fresh log_0) ≡
-    Accepted 0 0 NoSpeed ∷ Accepted 1 7 Walking ∷ Accepted 1 1 (Kmh 10) ∷ Accepted 0 0 NoSpeed ∷ Accepted 2 1 (Kmh 15)
-    ∷ Refused NotNearest ∷ Refused UnknownKind ∷ Refused BeforeClock ∷ Accepted 0 0 NoSpeed ∷ Accepted 0 0 NoSpeed
-    ∷ Refused NoLineClear ∷ Accepted 3 182 Booked ∷ Accepted 0 0 NoSpeed ∷ Accepted 2 172 Booked ∷ Accepted 0 0 NoSpeed
-    ∷ Refused GrantNotAllowed ∷ Accepted 4 178 Booked ∷ Refused HoldsLineClear ∷ Refused BeforeClock ∷ Accepted 5 114 (Both 10 10)
-    ∷ Accepted 0 0 NoSpeed ∷ Accepted 6 1 (Kmh 15) ∷ Refused NoGuest ∷ Accepted 7 7 Walking ∷ Accepted 0 0 NoSpeed
-    ∷ Accepted 8 7 (Kmh 10)
+    accept 0 0 NoSpeed ∷ accept 1 7 Walking ∷ accept 1 1 (Kmh 10) ∷ accept 0 0 NoSpeed ∷ accept 2 1 (Kmh 15)
+    ∷ Err NotNearest ∷ Err UnknownKind ∷ Err BeforeClock ∷ accept 0 0 NoSpeed ∷ accept 0 0 NoSpeed
+    ∷ Err NoLineClear ∷ accept 3 182 Booked ∷ accept 0 0 NoSpeed ∷ accept 2 172 Booked ∷ accept 0 0 NoSpeed
+    ∷ Err GrantNotAllowed ∷ accept 4 178 Booked ∷ Err HoldsLineClear ∷ Err BeforeClock ∷ accept 5 114 (Both 10 10)
+    ∷ accept 0 0 NoSpeed ∷ accept 6 1 (Kmh 15) ∷ Err NoGuest ∷ accept 7 7 Walking ∷ accept 0 0 NoSpeed
+    ∷ accept 8 7 (Kmh 10)
     ∷ []
 unfolding turns_compute
 answers_0 = refl
@@ -47,12 +48,12 @@ log_2 =
     ∷ []
 
 answers_2 : answers_in (turns_of single fresh log_2) ≡
-    Accepted 0 0 NoSpeed ∷ Accepted 1 1 Walking ∷ Accepted 2 7 (Kmh 10) ∷ Accepted 1 1 (Kmh 10) ∷ Accepted 2 1 (Kmh 10)
-    ∷ Accepted 3 1 (Kmh 15) ∷ Accepted 4 1 (Kmh 10) ∷ Accepted 5 1 (Kmh 15) ∷ Accepted 0 0 NoSpeed ∷ Accepted 6 7 Walking
-    ∷ Accepted 0 0 NoSpeed ∷ Accepted 0 0 NoSpeed ∷ Accepted 3 1 Walking ∷ Accepted 4 1 (Kmh 10) ∷ Accepted 5 7 (Kmh 15)
-    ∷ Accepted 0 0 NoSpeed ∷ Accepted 7 1 Walking ∷ Accepted 8 1 (Kmh 15) ∷ Refused BeforeClock ∷ Accepted 9 1 Walking
-    ∷ Refused IntervalRunning ∷ Refused OutOfRange ∷ Accepted 10 1 (Kmh 15) ∷ Accepted 11 1 Walking ∷ Accepted 0 0 NoSpeed
-    ∷ Accepted 0 0 NoSpeed
+    accept 0 0 NoSpeed ∷ accept 1 1 Walking ∷ accept 2 7 (Kmh 10) ∷ accept 1 1 (Kmh 10) ∷ accept 2 1 (Kmh 10)
+    ∷ accept 3 1 (Kmh 15) ∷ accept 4 1 (Kmh 10) ∷ accept 5 1 (Kmh 15) ∷ accept 0 0 NoSpeed ∷ accept 6 7 Walking
+    ∷ accept 0 0 NoSpeed ∷ accept 0 0 NoSpeed ∷ accept 3 1 Walking ∷ accept 4 1 (Kmh 10) ∷ accept 5 7 (Kmh 15)
+    ∷ accept 0 0 NoSpeed ∷ accept 7 1 Walking ∷ accept 8 1 (Kmh 15) ∷ Err BeforeClock ∷ accept 9 1 Walking
+    ∷ Err IntervalRunning ∷ Err OutOfRange ∷ accept 10 1 (Kmh 15) ∷ accept 11 1 Walking ∷ accept 0 0 NoSpeed
+    ∷ accept 0 0 NoSpeed
     ∷ []
 unfolding turns_compute
 answers_2 = refl
@@ -69,12 +70,12 @@ log_18 =
     ∷ []
 
 answers_18 : answers_in (turns_of single fresh log_18) ≡
-    Refused NotInForce ∷ Refused NotInForce ∷ Refused NotInForce ∷ Refused NotInForce ∷ Refused NotInForce
-    ∷ Refused WrongMap ∷ Accepted 0 0 NoSpeed ∷ Accepted 1 7 (Kmh 15) ∷ Accepted 0 0 NoSpeed ∷ Accepted 1 182 Booked
-    ∷ Accepted 0 0 NoSpeed ∷ Accepted 2 174 Booked ∷ Refused UnknownKind ∷ Accepted 0 0 NoSpeed ∷ Accepted 0 0 NoSpeed
-    ∷ Accepted 0 0 NoSpeed ∷ Accepted 1 7 (Kmh 10) ∷ Accepted 0 0 NoSpeed ∷ Refused NoLineClear ∷ Refused OutOfRange
-    ∷ Accepted 1 172 Booked ∷ Refused OpenerAway ∷ Refused NoLineClear ∷ Accepted 0 0 NoSpeed ∷ Accepted 2 178 Booked
-    ∷ Accepted 3 112 (Both 10 10)
+    Err NotInForce ∷ Err NotInForce ∷ Err NotInForce ∷ Err NotInForce ∷ Err NotInForce
+    ∷ Err WrongMap ∷ accept 0 0 NoSpeed ∷ accept 1 7 (Kmh 15) ∷ accept 0 0 NoSpeed ∷ accept 1 182 Booked
+    ∷ accept 0 0 NoSpeed ∷ accept 2 174 Booked ∷ Err UnknownKind ∷ accept 0 0 NoSpeed ∷ accept 0 0 NoSpeed
+    ∷ accept 0 0 NoSpeed ∷ accept 1 7 (Kmh 10) ∷ accept 0 0 NoSpeed ∷ Err NoLineClear ∷ Err OutOfRange
+    ∷ accept 1 172 Booked ∷ Err OpenerAway ∷ Err NoLineClear ∷ accept 0 0 NoSpeed ∷ accept 2 178 Booked
+    ∷ accept 3 112 (Both 10 10)
     ∷ []
 unfolding turns_compute
 answers_18 = refl
@@ -92,12 +93,12 @@ log_53 =
     ∷ []
 
 answers_53 : answers_in (turns_of single fresh log_53) ≡
-    Refused UnknownKind ∷ Refused NotInForce ∷ Refused NotInForce ∷ Accepted 0 0 NoSpeed ∷ Accepted 1 7 (Kmh 10)
-    ∷ Accepted 0 0 NoSpeed ∷ Refused GuestHere ∷ Accepted 1 182 Booked ∷ Refused UnknownKind ∷ Accepted 0 0 NoSpeed
-    ∷ Accepted 2 172 Booked ∷ Refused VehiclePresent ∷ Accepted 0 0 NoSpeed ∷ Refused UnknownKind ∷ Accepted 2 176 Booked
-    ∷ Accepted 0 0 NoSpeed ∷ Refused OwesLineClear ∷ Accepted 3 114 (Both 25 10) ∷ Accepted 4 112 (Both 10 10) ∷ Accepted 0 0 NoSpeed
-    ∷ Accepted 5 112 (Both 25 10) ∷ Accepted 6 114 (Both 25 10) ∷ Accepted 7 112 (Both 10 10) ∷ Accepted 0 0 NoSpeed ∷ Accepted 8 1 (Kmh 15)
-    ∷ Refused EndsInside
+    Err UnknownKind ∷ Err NotInForce ∷ Err NotInForce ∷ accept 0 0 NoSpeed ∷ accept 1 7 (Kmh 10)
+    ∷ accept 0 0 NoSpeed ∷ Err GuestHere ∷ accept 1 182 Booked ∷ Err UnknownKind ∷ accept 0 0 NoSpeed
+    ∷ accept 2 172 Booked ∷ Err VehiclePresent ∷ accept 0 0 NoSpeed ∷ Err UnknownKind ∷ accept 2 176 Booked
+    ∷ accept 0 0 NoSpeed ∷ Err OwesLineClear ∷ accept 3 114 (Both 25 10) ∷ accept 4 112 (Both 10 10) ∷ accept 0 0 NoSpeed
+    ∷ accept 5 112 (Both 25 10) ∷ accept 6 114 (Both 25 10) ∷ accept 7 112 (Both 10 10) ∷ accept 0 0 NoSpeed ∷ accept 8 1 (Kmh 15)
+    ∷ Err EndsInside
     ∷ []
 unfolding turns_compute
 answers_53 = refl
@@ -115,12 +116,12 @@ log_173 =
     ∷ []
 
 answers_173 : answers_in (turns_of single fresh log_173) ≡
-    Refused NotInForce ∷ Accepted 0 0 NoSpeed ∷ Accepted 1 7 Walking ∷ Accepted 0 0 NoSpeed ∷ Accepted 1 174 Booked
-    ∷ Accepted 0 0 NoSpeed ∷ Accepted 2 180 Booked ∷ Accepted 0 0 NoSpeed ∷ Accepted 3 112 (Both 10 10) ∷ Accepted 0 0 NoSpeed
-    ∷ Refused AlreadyInForce ∷ Refused BeforeClock ∷ Accepted 2 168 Booked ∷ Refused MayNotMeet ∷ Refused MayNotEnter
-    ∷ Accepted 0 0 NoSpeed ∷ Accepted 3 106 (Both 25 10) ∷ Accepted 0 0 NoSpeed ∷ Accepted 4 7 (Kmh 15) ∷ Accepted 4 7 (Kmh 15)
-    ∷ Accepted 0 0 NoSpeed ∷ Accepted 0 0 NoSpeed ∷ Accepted 5 7 (Kmh 15) ∷ Accepted 0 0 NoSpeed ∷ Accepted 6 7 Walking
-    ∷ Accepted 0 0 NoSpeed
+    Err NotInForce ∷ accept 0 0 NoSpeed ∷ accept 1 7 Walking ∷ accept 0 0 NoSpeed ∷ accept 1 174 Booked
+    ∷ accept 0 0 NoSpeed ∷ accept 2 180 Booked ∷ accept 0 0 NoSpeed ∷ accept 3 112 (Both 10 10) ∷ accept 0 0 NoSpeed
+    ∷ Err AlreadyInForce ∷ Err BeforeClock ∷ accept 2 168 Booked ∷ Err MayNotMeet ∷ Err MayNotEnter
+    ∷ accept 0 0 NoSpeed ∷ accept 3 106 (Both 25 10) ∷ accept 0 0 NoSpeed ∷ accept 4 7 (Kmh 15) ∷ accept 4 7 (Kmh 15)
+    ∷ accept 0 0 NoSpeed ∷ accept 0 0 NoSpeed ∷ accept 5 7 (Kmh 15) ∷ accept 0 0 NoSpeed ∷ accept 6 7 Walking
+    ∷ accept 0 0 NoSpeed
     ∷ []
 unfolding turns_compute
 answers_173 = refl

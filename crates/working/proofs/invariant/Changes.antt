@@ -57,7 +57,7 @@ well_meet s x i g may =
 
 -- ---- the cases
 
-pub data Change (s : Section) : Decoded → Stepped → Type 0 where
+pub data Change (s : Section) : Decoded → Stepped Section → Type 0 where
   refusal : (e : Decoded) (why : Refusal) → Change s e (refused s e why)
   emptying : (e : Decoded) (force : Bool) → Change s e (accepted (emptied force s.refused))
   departure : (x : Station) (time : ℕ) (act : Act) {p : Departing} → s.force ≡ true → Departs act x (desk_of s x) p
@@ -124,7 +124,7 @@ unfolding well_made pad_with
 sound_emptied true counts = record { places = refl; well = refl }
 sound_emptied false counts = record { places = refl; well = refl }
 
-sound_change : (s : Section) (e : Decoded) (r : Stepped) → Sound s → Change s e r → Sound r.section
+sound_change : (s : Section) (e : Decoded) (r : Stepped Section) → Sound s → Change s e r → Sound r.section
 unfolding well_made
 sound_change s e r g (refusal k why) = record { places = g.places; well = g.well }
 sound_change s e r g (emptying k force) = sound_emptied force s.refused

@@ -3,6 +3,7 @@
 -- the rest.
 -- Assumes nothing.
 use Prim.Native.Nat.{ℕ, ◌%◌, ◌+◌, ◌<◌, ◌≤◌}
+use Rattle.std.specs.Prelude.{Some}
 use Rattle.working.proofs.invariant.Invariant.{Halves, hauled, is_open, kept_return, kept_slow, kept_train, uses}
 use Rattle.working.proofs.invariant.ReplyLast.{Allowed01, ReplyLast, replies_return, replies_slow, replies_train}
 use Rattle.working.proofs.laws.Clauses.{Bounds, Few, MovementMade, Shape}
@@ -21,7 +22,6 @@ use Rattle.working.specs.Terms.{LAST-TRAIN, TRAIN, kind_in, kind_of}
 use Rattle.working.specs.WellMade.{is_open_or_through, not_later}
 use Rattle.working.specs.declared.Clears.{Clears}
 use Rattle.working.specs.declared.Desk.{Desk}
-use Rattle.working.specs.declared.Interval.TheVariants.{Since}
 use Rattle.working.specs.declared.Movement.TheVariants.{Open, Return, Through}
 use Rattle.working.specs.declared.Movement.{Movement}
 use Rattle.working.specs.declared.Refusal.{Refusal}
@@ -34,7 +34,6 @@ use borrow.Author.Tests.{le-leb}
 use lib.Dec.{eqb, ltb}
 use mathlib.Core.Bool.{Bool, cond, false, false≢true, or-true, true, ◌&&◌}
 use mathlib.Core.List.{List, ◌++◌, ◌∷◌}
-use mathlib.Core.Option.{some}
 use mathlib.Core.Path.{refl, ◌≡◌}
 use native.Mathlib.Omega.{arith}
 
@@ -51,7 +50,7 @@ pub record Departs (act : Act) (x : Station) (d : Desk) (p : Departing) : Type 0
   pub shape : Shape p.vehicle
   pub keeps : (o : Desk) (mine theirs : List Movement) → Halves d o mine theirs → Halves p.desk o (p.vehicle.movement ∷ mine) theirs
   pub replies : (o : Desk) (mine theirs : List Movement) → Halves d o mine theirs → Allowed01 act d → ReplyLast d mine → ReplyLast p.desk (p.vehicle.movement ∷ mine)
-  pub kind : kind_of act ≡ some (kind_in p.vehicle.movement)
+  pub kind : kind_of act ≡ Some (kind_in p.vehicle.movement)
   pub slowly : is_open_or_through p.vehicle.movement ≡ true → (eqb (p.order.forms % 2) 1 && is_slow p.order.speed) ≡ true
 
 pub data Fate (act : Act) (x : Station) (force : Bool) (d : Desk) (t : ℕ) (v : Vehicle) : Plan → Type 0 where
@@ -69,7 +68,7 @@ shape_for B n m class made = record { sender = refl; heading = refl; away = refl
 
 -- the desk after a departure, with what tells the kinds apart
 abbrev leaves : Desk → ℕ → Bool → ℕ → Clears → Desk
-leaves d t out guest clears = with_figures t (next_form d) (d.sent + 1) (Since t) out guest clears d
+leaves d t out guest clears = with_figures t (next_form d) (d.sent + 1) (Some t) out guest clears d
 
 -- what each kind has of its own
 record Leaves (act : Act) (d e : Desk) (m : Movement) (class : ℕ) (order : Order) : Type 0 where
@@ -77,7 +76,7 @@ record Leaves (act : Act) (d e : Desk) (m : Movement) (class : ℕ) (order : Ord
   made : MovementMade m class
   keeps : (o : Desk) (mine theirs : List Movement) → Halves d o mine theirs → Halves e o (m ∷ mine) theirs
   replies : (o : Desk) (mine theirs : List Movement) → Halves d o mine theirs → Allowed01 act d → ReplyLast d mine → ReplyLast e (m ∷ mine)
-  kind : kind_of act ≡ some (kind_in m)
+  kind : kind_of act ≡ Some (kind_in m)
   slowly : is_open_or_through m ≡ true → (eqb (order.forms % 2) 1 && is_slow order.speed) ≡ true
 
 -- a departure whose kind's own tests passed
@@ -118,7 +117,7 @@ open_slow Impaired = refl
 -- OPEN and THROUGH, on forms that are odd: the 1 of T/B 602 is among them
 slow_fate : (act : Act) (x : Station) (force : Bool) (d : Desk) (t : ℕ) (v : Vehicle) (out : Bool) (m : Movement) (class forms : ℕ) (w : View)
     → Bounds d
-    → is_open_or_through m ≡ true → (OpenPasses d → out ≡ is_open m) → MovementMade m class → kind_of act ≡ some (kind_in m) → eqb (forms % 2) 1 ≡ true
+    → is_open_or_through m ≡ true → (OpenPasses d → out ≡ is_open m) → MovementMade m class → kind_of act ≡ Some (kind_in m) → eqb (forms % 2) 1 ≡ true
     → Fate act x force d t v (unless_refused (first_of (depart_tests force d t (open_tests d)))
     (Depart (record {
       desk = with_out out (departed d t);
@@ -177,7 +176,7 @@ fate (acts.Train endorsed w asked granted) x force d t v few b =
     train_made false holds few most = omega arith
     train_made true holds few most = omega arith
 
-    train_kind : (endorsed : Bool) → some (cond endorsed LAST-TRAIN TRAIN) ≡ some (kind_in (train_movement endorsed d.clears.holds asked granted))
+    train_kind : (endorsed : Bool) → Some (cond endorsed LAST-TRAIN TRAIN) ≡ Some (kind_in (train_movement endorsed d.clears.holds asked granted))
     train_kind false = refl
     train_kind true = refl
 fate (acts.Receive y k) x force d t v made b =

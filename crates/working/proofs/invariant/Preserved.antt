@@ -73,7 +73,7 @@ kept-emptied = record { own = half; far = half }
     half : Half fresh_desk fresh_desk [] []
     half = quiet refl refl refl refl refl tt (all_slow tt)
 
-kept_change : (s : Section) (e : Decoded) (r : Stepped) → Good s → Change s e r → Between A r.section.a r.section.b (vehicles_of r.section)
+kept_change : (s : Section) (e : Decoded) (r : Stepped Section) → Good s → Change s e r → Between A r.section.a r.section.b (vehicles_of r.section)
 kept_change s e r g (refusal k why) = g.kept
 kept_change s e r g (emptying k force) = kept-emptied
 kept_change s e r g (departure x time act {p} f leaves w) = kept_with s x p.desk (insert_at x p.vehicle (vehicles_of s)) w (kept_depart s act x p g leaves)

@@ -1,6 +1,7 @@
 -- What a receipt does to the desk, by what the vehicle left on: the figures stay in range, and the invariant is kept.
 -- Assumes nothing.
 use Prim.Native.Nat.{ℕ, ◌-◌, ◌≤◌}
+use Rattle.std.specs.Prelude.{None}
 use Rattle.working.proofs.invariant.Invariant.{Halves, kept-own, kept_far, kept_guest}
 use Rattle.working.proofs.laws.Clauses.{Bounds, MovementMade}
 use Rattle.working.proofs.laws.Tests.{both, either_most}
@@ -10,7 +11,6 @@ use Rattle.working.specs.Sections.{number_at, with_figures}
 use Rattle.working.specs.WellMade.{is_from, is_open_or_through, not_later}
 use Rattle.working.specs.declared.Clears.{Clears}
 use Rattle.working.specs.declared.Desk.{Desk}
-use Rattle.working.specs.declared.Interval.TheVariants.{Stopped}
 use Rattle.working.specs.declared.Movement.TheVariants.{LastTrain, Open, Return, Through, Train}
 use Rattle.working.specs.declared.Movement.{Movement}
 use Rattle.working.specs.declared.Station.{Station}
@@ -32,7 +32,7 @@ pub record Arrives (d e : Desk) (n : ℕ) : Type 0 where
 
 -- the desk after a receipt, with what tells the kinds apart
 abbrev arrival : Desk → ℕ → ℕ → Bool → ℕ → Clears → Desk
-arrival d t sent out guest clears = with_figures t d.last sent Stopped out guest clears d
+arrival d t sent out guest clears = with_figures t d.last sent None out guest clears d
 
 arrived : (d : Desk) (t n : ℕ) (out : Bool) (guest : ℕ) (clears : Clears) → Bounds (arrival d t n out guest clears) → Arrives d (arrival d t n out guest clears) n
 arrived d t n out guest clears b = record { last = refl; sent = refl; bounds = b; interval = refl }

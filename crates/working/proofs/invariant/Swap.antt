@@ -3,6 +3,7 @@
 -- at the other end, which is excluded, or two receipts of one vehicle, of which the second would be refused. It holds on every well-made section.
 -- Assumes nothing.
 use Prim.Native.Nat.{ℕ, ◌+◌, ◌<◌, ◌≤◌}
+use Rattle.std.specs.Prelude.{Err}
 use Rattle.working.proofs.invariant.Changes.{Sound, named_there, sound_step, step_is, well_at}
 use Rattle.working.proofs.invariant.Made.{room_of, vehicles_after}
 use Rattle.working.proofs.invariant.Plans.{Fate, arrives, departs, fate, refuses}
@@ -11,6 +12,7 @@ use Rattle.working.proofs.laws.Tests.{both, clash}
 use Rattle.working.proofs.laws.Vehicles.{Nearest, insert-length, nearest, nearest_insert, remove-insert, remove-short}
 use Rattle.working.specs.Acts as acts
 use Rattle.working.specs.Acts.{Act}
+use Rattle.working.specs.Answers.{Answer, accept}
 use Rattle.working.specs.Effects.{Arrive, Depart, Plan, Refuse}
 use Rattle.working.specs.Events.{At, Decoded, Says, decode}
 use Rattle.working.specs.Reasons.{is_named}
@@ -18,8 +20,6 @@ use Rattle.working.specs.Sections.{desk_of, insert_at, nearest_at, number_at, re
 use Rattle.working.specs.Steps.{done_by, entered, on_decoded, plan_of, step_of}
 use Rattle.working.specs.Terms.{ReceivesIt, is_departure, is_some}
 use Rattle.working.specs.Turns.{is_accepted}
-use Rattle.working.specs.declared.Answer.TheVariants as answer
-use Rattle.working.specs.declared.Answer.{Answer}
 use Rattle.working.specs.declared.Desk.{Desk}
 use Rattle.working.specs.declared.Section.{Section}
 use Rattle.working.specs.declared.Speed.TheVariants.{NoSpeed}
@@ -96,9 +96,9 @@ desk_by (Depart p) e = p.desk
 desk_by (Arrive d) e = d
 
 abbrev answer_by : Plan → Answer
-answer_by (Refuse r) = answer.Refused r
-answer_by (Depart p) = answer.Accepted p.vehicle.form p.order.forms p.order.speed
-answer_by (Arrive d) = answer.Accepted 0 0 NoSpeed
+answer_by (Refuse r) = Err r
+answer_by (Depart p) = accept p.vehicle.form p.order.forms p.order.speed
+answer_by (Arrive d) = accept 0 0 NoSpeed
 
 abbrev Accepts : Plan → Type 0
 Accepts p = is_accepted (answer_by p) ≡ true
@@ -269,8 +269,8 @@ acted s b x t act p g says is =
     let e = Says (At x t act) in
     let did : step_of s b ≡ done_by s e x p = step_is s b g.well ∙ ap (on_decoded s) says ∙ ap (done_by s e x) (sym is) in
     record {
-      answers = ap (λ (r : Stepped). r.answer) did ∙ done_answer s e x p;
-      leaves = λ ok. ap (λ (r : Stepped). r.section) did ∙ done_section s e x p ok;
+      answers = ap (λ (r : Stepped Section). r.answer) did ∙ done_answer s e x p;
+      leaves = λ ok. ap (λ (r : Stepped Section). r.section) did ∙ done_section s e x p ok;
     }
 
 pub swapped : (s : Section) (b c : List ℕ) (x y : Station) (t u : ℕ) (act bct : Act) → Opposite x y → Sound s → decode b ≡ Says (At x t act)

@@ -3,17 +3,17 @@
 -- value.
 -- Assumes nothing.
 use Prim.Native.Nat.{ℕ, ◌+◌, ◌≤◌}
+use Rattle.std.specs.Prelude.{None, Option, Some}
 use Rattle.working.proofs.laws.Turns.{entries_by, refused_by, turns_by, turns_few}
+use Rattle.working.specs.Answers.{Answer}
 use Rattle.working.specs.Entries.{read_at}
 use Rattle.working.specs.Sections.{count_of, is_same, none_refused, one_more, one_more_of}
 use Rattle.working.specs.Turns.{Turn, Working, entries_in, is_accepted, section_after, turn_in, turns_from, turns_of}
 use Rattle.working.specs.WellMade.{one_if}
-use Rattle.working.specs.declared.Answer.{Answer}
 use Rattle.working.specs.declared.Counts.{Counts}
 use Rattle.working.specs.declared.Read.{Read}
 use Rattle.working.specs.declared.Station.TheVariants.{A, B}
-use Rattle.working.specs.declared.Whose.TheVariants.{NoStation, Of}
-use Rattle.working.specs.declared.Whose.{Whose}
+use Rattle.working.specs.declared.Station.{Station}
 use borrow.Author.Tests.{lt-ltb}
 use lib.ListN.{length}
 use mathlib.Core.Bool.{Bool, cond, false, not, true, ◌&&◌}
@@ -24,28 +24,28 @@ use native.Mathlib.Omega.{arith}
 -- ---- the three counts
 
 -- what a step makes of them: one more is refused, or none
-abbrev pub counted_for : Answer → Whose → Counts → Counts
+abbrev pub counted_for : Answer → Option Station → Counts → Counts
 counted_for a is c = cond (is_accepted a) c (one_more_of is c)
 
 -- of the three, the one counted has one more
-one_of : (c : Counts) (whose is : Whose) → count_of (one_more_of is c) whose ≡ cond (is_same whose is) (one_more (count_of c whose)) (count_of c whose)
-one_of c (Of A) (Of A) = refl
-one_of c (Of A) (Of B) = refl
-one_of c (Of A) NoStation = refl
-one_of c (Of B) (Of A) = refl
-one_of c (Of B) (Of B) = refl
-one_of c (Of B) NoStation = refl
-one_of c NoStation (Of A) = refl
-one_of c NoStation (Of B) = refl
-one_of c NoStation NoStation = refl
+one_of : (c : Counts) (whose is : Option Station) → count_of (one_more_of is c) whose ≡ cond (is_same whose is) (one_more (count_of c whose)) (count_of c whose)
+one_of c (Some A) (Some A) = refl
+one_of c (Some A) (Some B) = refl
+one_of c (Some A) None = refl
+one_of c (Some B) (Some A) = refl
+one_of c (Some B) (Some B) = refl
+one_of c (Some B) None = refl
+one_of c None (Some A) = refl
+one_of c None (Some B) = refl
+one_of c None None = refl
 
-none_yet : (whose : Whose) → count_of none_refused whose ≡ 0
-none_yet (Of A) = refl
-none_yet (Of B) = refl
-none_yet NoStation = refl
+none_yet : (whose : Option Station) → count_of none_refused whose ≡ 0
+none_yet (Some A) = refl
+none_yet (Some B) = refl
+none_yet None = refl
 
 -- one more where the step is refused and theirs, and the count is not at its largest value
-one_more_lem : (a : Answer) (is whose : Whose) (c : Counts) → count_of c whose + one_if (not (is_accepted a) && is_same whose is) ≤ 4294967295
+one_more_lem : (a : Answer) (is whose : Option Station) (c : Counts) → count_of c whose + one_if (not (is_accepted a) && is_same whose is) ≤ 4294967295
     → count_of (counted_for a is c) whose ≡ count_of c whose + one_if (not (is_accepted a) && is_same whose is)
 one_more_lem a is whose c = by (is_accepted a) (is_same whose is) (one_of c whose is)
   where
@@ -59,17 +59,17 @@ one_more_lem a is whose c = by (is_accepted a) (is_same whose is) (one_of c whos
 -- ---- a log
 
 -- no count is above the number of entries
-refused_few : {S : Type 0} (whose_read : Read → Whose) (whose : Whose) (l : List (Turn S)) → refused_by whose_read whose l ≤ entries_in l
-refused_few whose_read (Of A) l = omega (arith, entries_by whose_read l)
-refused_few whose_read (Of B) l = omega (arith, entries_by whose_read l)
-refused_few whose_read NoStation l = omega (arith, entries_by whose_read l)
+refused_few : {S : Type 0} (whose_read : Read → Option Station) (whose : Option Station) (l : List (Turn S)) → refused_by whose_read whose l ≤ entries_in l
+refused_few whose_read (Some A) l = omega (arith, entries_by whose_read l)
+refused_few whose_read (Some B) l = omega (arith, entries_by whose_read l)
+refused_few whose_read None l = omega (arith, entries_by whose_read l)
 
 -- what is worked, whose an entry that was read is, a section's counts, and what every turn keeps of the section and makes of its counts
-module _ {S : Type 0} (W : Working S) (whose_read : Read → Whose) (counts_in : S → Counts) (Good : S → Type 0)
+module _ {S : Type 0} (W : Working S) (whose_read : Read → Option Station) (counts_in : S → Counts) (Good : S → Type 0)
     (kept : (s : S) (log : List ℕ) (at : ℕ) → Good s → Good (turn_in W s log at).after)
     (counts : (s : S) (log : List ℕ) (at : ℕ) → Good s
     → counts_in (turn_in W s log at).after ≡ counted_for (turn_in W s log at).answer (whose_read (read_at W.table log at)) (counts_in s))
-    (whose : Whose) (log : List ℕ) where
+    (whose : Option Station) (log : List ℕ) where
   count_turn : (s : S) (at : ℕ) → Good s
       → count_of (counts_in s) whose + one_if (not (is_accepted (turn_in W s log at).answer) && is_same whose (whose_read (read_at W.table log at))) ≤ 4294967295
       → count_of (counts_in (turn_in W s log at).after) whose

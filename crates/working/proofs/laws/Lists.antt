@@ -1,10 +1,10 @@
 -- Lists of steps: what either form of the step says is the same, a list may be taken apart and put together, and every list of bytes and forms has a run.
 -- Assumes nothing.
 use Prim.Native.Nat.{ℕ}
+use Rattle.working.specs.Answers.{Answer}
 use Rattle.working.specs.Runs.{Done, Run, RunBy, StepBy, StepForm, by_value, end_by, in_place, next, results, results_by, results_of, results_over, results_with, stop}
 use Rattle.working.specs.Steps.{step_of}
 use Rattle.working.specs.Turns.{Working, single}
-use Rattle.working.specs.declared.Answer.{Answer}
 use Rattle.working.specs.declared.Section.{Section}
 use Rattle.working.specs.declared.Stepped.{Stepped}
 use mathlib.Core.List.{List, [], ◌++◌, ◌∷◌}
@@ -60,7 +60,7 @@ pub step_did : (d : Done) (s t : Section) → StepBy d.form s d.bytes d.answer t
 step_did d s t h = by d.form h
   where
     by : (f : StepForm) → StepBy f s d.bytes d.answer t → StepDid d s t
-    by by_value h = record { answered = ap (λ (r : Stepped). r.answer) h; left = ap (λ (r : Stepped). r.section) h }
+    by by_value h = record { answered = ap (λ (r : Stepped Section). r.answer) h; left = ap (λ (r : Stepped Section). r.section) h }
     by in_place h = record { answered = h.0; left = h.1 }
 
 pub step_by : (f : StepForm) (s : Section) (bytes : List ℕ) {a : Answer} {t : Section} → a ≡ (step_of s bytes).answer
@@ -70,19 +70,19 @@ step_by in_place s bytes p q = (p, q)
 
 pub each_result : {s t : Section} {l : List Done} (r : Run s l t) → results r ≡ results_of s l
 each_result r =
-    each_by StepBy step_of (λ answer s. record { answer = answer; section = s }) (λ (r : Stepped). r.section) (λ answer s. refl)
+    each_by StepBy step_of (λ answer s. record { answer = answer; section = s }) (λ (r : Stepped Section). r.section) (λ answer s. refl)
     (λ f s bytes answer t h. let did = step_did (record { form = f; bytes = bytes; answer = answer }) s t h in λ i. record { answer = did.answered i; section = did.left i })
     r
 
 -- a list by another step: each result is that of `alike`, which leaves the same sections as `step`, and the section at its end is that of `step`
-pub record ListAs (step alike : Section → List ℕ → Stepped) (s : Section) (l : List Done) (t : Section) : Type 0 where
+pub record ListAs (step alike : Section → List ℕ → Stepped Section) (s : Section) (l : List Done) (t : Section) : Type 0 where
   pub each : results_of s l ≡ results_by alike s l
   pub end : t ≡ end_by step s l
 
-pub next_as : {step alike : Section → List ℕ → Stepped} {s t u : Section} {d : Done} {l : List Done} → t ≡ (step_of s d.bytes).section
+pub next_as : {step alike : Section → List ℕ → (Stepped Section)} {s t u : Section} {d : Done} {l : List Done} → t ≡ (step_of s d.bytes).section
     → step_of s d.bytes ≡ alike s d.bytes → (alike s d.bytes).section ≡ (step s d.bytes).section → ListAs step alike t l u → ListAs step alike s (d ∷ l) u
 next_as {step} {alike} {s} {d = d} {l = l} left same section later =
-    let there = left ∙ ap (λ (r : Stepped). r.section) same in
+    let there = left ∙ ap (λ (r : Stepped Section). r.section) same in
     record {
       each = ap₂ ◌∷◌ same (ap (λ (z : Section). results_of z l) (sym left) ∙ later.each ∙ ap (λ (z : Section). results_by alike z l) there);
       end = later.end ∙ ap (λ (z : Section). end_by step z l) (there ∙ section);

@@ -2,6 +2,7 @@
 -- holds, and the lists of tests name no other.
 -- Assumes nothing.
 use Prim.Native.Nat.{ℕ}
+use Rattle.std.specs.Prelude.{Err, Ok}
 use Rattle.working.proofs.invariant.Changes.{step_is}
 use Rattle.working.proofs.laws.Found.{Found, cut, found, the_end, whole}
 use Rattle.working.proofs.laws.Tests.{both}
@@ -11,9 +12,8 @@ use Rattle.working.specs.Calls.{leaves_all}
 use Rattle.working.specs.Effects.{effect_of}
 use Rattle.working.specs.Entries.{entry_in, entry_tests, judge, read_as, read_at}
 use Rattle.working.specs.Events.{At, Bad, Begin, Decoded, Event, Meet, Resume, Says, decode, decoded_as}
-use Rattle.working.specs.Positions.{refusal_in, refusal_of}
 use Rattle.working.specs.Reasons.{begin_tests, find_of, meet_tests, resume_tests, tests_of}
-use Rattle.working.specs.Refusals.{Test, first_of, number_of, or_else}
+use Rattle.working.specs.Refusals.{Test, Verdict, first_of, number_of, or_else, refusal_in}
 use Rattle.working.specs.Sections.{desk_of, nearest_at, vehicles_of}
 use Rattle.working.specs.Steps.{done_by, entered, on_decoded, settled, step_of, unless_refused}
 use Rattle.working.specs.WellMade.{well_made}
@@ -23,8 +23,6 @@ use Rattle.working.specs.declared.Section.{Section}
 use Rattle.working.specs.declared.Station.{Station}
 use Rattle.working.specs.declared.Table.TheVariants.{SingleLine}
 use Rattle.working.specs.declared.Vehicle.{Vehicle}
-use Rattle.working.specs.declared.Verdict.TheVariants.{Allowed, Refused}
-use Rattle.working.specs.declared.Verdict.{Verdict}
 use borrow.Author.Tests.{not-true}
 use lib.ListN.{drop}
 use mathlib.Core.Bool.{Bool, false, not, true, ◌&&◌}
@@ -60,8 +58,8 @@ unfolding decode judge
 said_counted bytes = by (found SingleLine bytes 0)
   where
     read : (v : Verdict) (e : Entry) (next : ℕ) → number_said (decoded_as (read_as v e next)) ≡ refusal_in v
-    read Allowed e next = refl
-    read (Refused why) e next = refl
+    read (Ok _) e next = refl
+    read (Err why) e next = refl
 
     by : Found SingleLine bytes 0 → leaves_all (number_said (decoded_as (read_at SingleLine bytes 0))) ≡ false
     by (the_end r) = rw r
@@ -77,20 +75,20 @@ tests_counted (acts.Return asked granted) x force d time v = refl
 tests_counted (acts.Train endorsed view asked granted) x force d time v = refl
 tests_counted (acts.Receive sender form) x force d time v = refl
 
-settled-number : (s : Section) (e : Decoded) (v : Verdict) (t : Section) → refusal_of (settled s e v t).answer ≡ refusal_in v
-settled-number s e (Refused why) t = refl
-settled-number s e Allowed t = refl
+settled-number : (s : Section) (e : Decoded) (v : Verdict) (t : Section) → refusal_in (settled s e v t).answer ≡ refusal_in v
+settled-number s e (Err why) t = refl
+settled-number s e (Ok _) t = refl
 
 done_number : (s : Section) (e : Decoded) (r : Verdict) (act : Act) (x : Station) (d : Desk) (time : ℕ) (v : Vehicle)
-    → refusal_of (done_by s e x (unless_refused r (effect_of act x d time v))).answer ≡ refusal_in r
-done_number s e (Refused why) act x d time v = refl
-done_number s e Allowed (acts.Open view class asked) x d time v = refl
-done_number s e Allowed (acts.Through view) x d time v = refl
-done_number s e Allowed (acts.Return asked granted) x d time v = refl
-done_number s e Allowed (acts.Train endorsed view asked granted) x d time v = refl
-done_number s e Allowed (acts.Receive sender form) x d time v = refl
+    → refusal_in (done_by s e x (unless_refused r (effect_of act x d time v))).answer ≡ refusal_in r
+done_number s e (Err why) act x d time v = refl
+done_number s e (Ok _) (acts.Open view class asked) x d time v = refl
+done_number s e (Ok _) (acts.Through view) x d time v = refl
+done_number s e (Ok _) (acts.Return asked granted) x d time v = refl
+done_number s e (Ok _) (acts.Train endorsed view asked granted) x d time v = refl
+done_number s e (Ok _) (acts.Receive sender form) x d time v = refl
 
-entered-counted : (s : Section) (e : Event) → leaves_all (refusal_of (entered s e).answer) ≡ false
+entered-counted : (s : Section) (e : Event) → leaves_all (refusal_in (entered s e).answer) ≡ false
 unfolding entered
 entered-counted s Begin = rw settled-number (scan_counted (begin_tests s.force) refl)
 entered-counted s (At x time act) =
@@ -102,9 +100,9 @@ entered-counted s Resume = rw settled-number (scan_counted (resume_tests s.force
 
 -- ---- the step
 
-pub step_counted : (s : Section) (bytes : List ℕ) → well_made s ≡ true → leaves_all (refusal_of (step_of s bytes).answer) ≡ false
+pub step_counted : (s : Section) (bytes : List ℕ) → well_made s ≡ true → leaves_all (refusal_in (step_of s bytes).answer) ≡ false
 step_counted s bytes h = rw (step_is s bytes h) (by (decode bytes) (said_counted bytes))
   where
-    by : (e : Decoded) → leaves_all (number_said e) ≡ false → leaves_all (refusal_of (on_decoded s e).answer) ≡ false
+    by : (e : Decoded) → leaves_all (number_said e) ≡ false → leaves_all (refusal_in (on_decoded s e).answer) ≡ false
     by (Bad why) said = said
     by (Says e) said = entered-counted s e

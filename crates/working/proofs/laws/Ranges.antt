@@ -3,6 +3,7 @@
 -- The kind fixes which bits stand, and a field that is there lies in its range, while one that is absent is 0.
 -- Assumes nothing.
 use Prim.Native.Nat.{ℕ, ◌+◌, ◌≤◌}
+use Rattle.std.specs.Prelude.{None, Ok, Option, Some}
 use Rattle.working.proofs.laws.Clauses.{Carried, Few}
 use Rattle.working.proofs.laws.Found.{read_by}
 use Rattle.working.proofs.laws.Judged.{taken}
@@ -20,9 +21,6 @@ use Rattle.working.specs.declared.Station.TheVariants.{A, B}
 use Rattle.working.specs.declared.Station.{Station}
 use Rattle.working.specs.declared.Table.TheVariants.{SingleLine}
 use Rattle.working.specs.declared.Table.{Table}
-use Rattle.working.specs.declared.Verdict.TheVariants.{Allowed}
-use Rattle.working.specs.declared.Whose.TheVariants.{NoStation, Of}
-use Rattle.working.specs.declared.Whose.{Whose}
 use borrow.Author.Tests.{eqb-false, eqb-true, leb-true, not-true}
 use lib.Dec.{eqb, leb}
 use mathlib.Core.Bool.{Bool, cond, false, false≢true, not, true, ◌&&◌, ◌||◌}
@@ -48,10 +46,10 @@ Ranged Resume = Unit {0}
 -- ---- the kind and the station that a listing prints, and whose the entry is
 
 -- it shows no station, or is a MEET, and is of no station; or it is that of the station shown
-pub data Placed (kind station : ℕ) : Whose → Type 0 where
-  nowhere : station ≡ 0 → Placed kind station NoStation
-  met : kind ≡ 7 → Placed kind station NoStation
-  own : (x : Station) → station ≡ number_at x → (kind ≡ 7 → ⊥) → Placed kind station (Of x)
+pub data Placed (kind station : ℕ) : Option Station → Type 0 where
+  nowhere : station ≡ 0 → Placed kind station None
+  met : kind ≡ 7 → Placed kind station None
+  own : (x : Station) → station ≡ number_at x → (kind ≡ 7 → ⊥) → Placed kind station (Some x)
 
 -- ---- a field
 
@@ -88,16 +86,16 @@ bad_says e = subst is_bad e tt
 
 -- ---- the station of an entry that either table takes
 
-module _ (table : Table) (e : Entry) (allowed : judge table e ≡ Allowed) where
+module _ (table : Table) (e : Entry) (allowed : judge table e ≡ Ok tt) where
   -- bit 1, the station's, stands where the kind has it
   pub station_bit : (kind : ℕ) → e.kind ≡ kind → bit_fits (row_of table kind) e.map 1 ≡ true
   unfolding map_fits
   station_bit kind is = bit_fits_lem (row_of table kind) e.map (0 ∷ 1 ∷ 2 ∷ 3 ∷ 4 ∷ 5 ∷ 6 ∷ 7 ∷ []) 1 (rw is at (taken table e allowed).fits) refl
 
-  pub no_station : not (stands 1 e.map) ≡ true → Placed e.kind e.station NoStation
+  pub no_station : not (stands 1 e.map) ≡ true → Placed e.kind e.station None
   no_station absent = nowhere (eqb-true e.station 0 (rw (not-true (stands 1 e.map) absent) at (taken table e allowed).ranges.station))
 
-  pub its_station : (e.kind ≡ 7 → ⊥) → stands 1 e.map ≡ true → Placed e.kind e.station (Of (station_of e.station))
+  pub its_station : (e.kind ≡ 7 → ⊥) → stands 1 e.map ≡ true → Placed e.kind e.station (Some (station_of e.station))
   its_station no-meet there =
       own (station_of e.station) (by (between (stands 1 e.map) 1 2 e.station there (taken table e allowed).ranges.station) (eqb e.station 1) refl) no-meet
     where
@@ -107,7 +105,7 @@ module _ (table : Table) (e : Entry) (allowed : judge table e ≡ Allowed) where
 
 -- ---- an entry that a single line's table takes
 
-module _ (e : Entry) (allowed : judge SingleLine e ≡ Allowed) where
+module _ (e : Entry) (allowed : judge SingleLine e ≡ Ok tt) where
   known : (1 ≤ e.kind) × (e.kind ≤ 9)
   known =
       let range = both (leb 1 e.kind) (leb e.kind 9) (both (stands 0 e.map) (leb 1 e.kind && leb e.kind 9) (taken SingleLine e allowed).known).1 in

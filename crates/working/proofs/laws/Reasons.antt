@@ -1,13 +1,13 @@
 -- What is known where no reason applies: each list of tests of specs/Reasons as a record that names what later proofs use of it.
 -- Assumes nothing.
 use Prim.Native.Nat.{suc, ℕ, ◌<◌}
+use Rattle.std.specs.Prelude.{Option}
 use Rattle.working.proofs.laws.Tests.{NoneHolds, each_holds, no_test, none_of_both, or_right, some_test}
 use Rattle.working.specs.Reasons.{depart_tests, is_named, last_tests, may_enter, may_meet, meet_tests, meeting_tests, open_tests, receive_tests, return_tests, station_tests, train_tests}
 use Rattle.working.specs.Refusals.{Test}
 use Rattle.working.specs.Sections.{unused}
 use Rattle.working.specs.WellMade.{is_open_or_through}
 use Rattle.working.specs.declared.Desk.{Desk}
-use Rattle.working.specs.declared.Interval.{Interval}
 use Rattle.working.specs.declared.Station.{Station}
 use Rattle.working.specs.declared.Vehicle.{Vehicle}
 use borrow.Author.Tests.{leb-false, lt-ltb, not-false}
@@ -46,7 +46,7 @@ pub record LastPasses (counted last : ℕ) : Type 0 where
   pub room : counted < 12
   pub unused : last < 9999
 
-pub last_passes : (counted last : ℕ) (i : Interval) (t : ℕ) → NoneHolds (last_tests counted last i t) → LastPasses counted last
+pub last_passes : (counted last : ℕ) (i : Option ℕ) (t : ℕ) → NoneHolds (last_tests counted last i t) → LastPasses counted last
 last_passes counted last i t n = omega (arith, leb-false)
 
 -- a departure's tests, of which those in the middle are its kind's own

@@ -1,25 +1,24 @@
 -- A list of tests is scanned for the first that holds: it refuses or allows by that one, and of two lists in a row the second decides where the first lets everything pass.
 -- Assumes nothing.
+use Rattle.std.specs.Prelude.{Err, Ok}
 use Rattle.working.proofs.laws.Every.{Every}
 use Rattle.working.proofs.laws.Tests.{NoneHolds, none_holds}
-use Rattle.working.specs.Refusals.{Test, first_of, or_else}
+use Rattle.working.specs.Refusals.{Test, Verdict, first_of, or_else}
 use Rattle.working.specs.declared.Refusal.{Refusal}
-use Rattle.working.specs.declared.Verdict.TheVariants.{Allowed, Refused}
-use Rattle.working.specs.declared.Verdict.{Verdict}
 use mathlib.Core.Bool.{Bool, false, true}
 use mathlib.Core.List.{List, [], ◌++◌, ◌∷◌}
 use mathlib.Core.Path.{refl, ◌∙◌, ◌≡◌}
 
 -- what holds of each refusal, and of an entry that is allowed where no test holds, holds of what the scan finds
-pub scanned : (P : Verdict → Type 0) (tests : List Test) → ((why : Refusal) → P (Refused why)) → (NoneHolds tests → P Allowed) → P (first_of tests)
+pub scanned : (P : Verdict → Type 0) (tests : List Test) → ((why : Refusal) → P (Err why)) → (NoneHolds tests → P (Ok tt)) → P (first_of tests)
 scanned P tests refused passed = by (first_of tests) refl
   where
     by : (v : Verdict) → first_of tests ≡ v → P v
-    by (Refused why) e = refused why
-    by Allowed e = passed (none_holds tests e)
+    by (Err why) e = refused why
+    by (Ok _) e = passed (none_holds tests e)
 
 -- the same, where only the refusal of a test that holds is looked at
-pub scanned_each : (P : Verdict → Type 0) (tests : List Test) → Every (λ (t : Test). t.0 ≡ true → P (Refused t.1)) tests → (NoneHolds tests → P Allowed)
+pub scanned_each : (P : Verdict → Type 0) (tests : List Test) → Every (λ (t : Test). t.0 ≡ true → P (Err t.1)) tests → (NoneHolds tests → P (Ok tt))
     → P (first_of tests)
 scanned_each P [] refused passed = passed tt
 scanned_each P (t ∷ tests) refused passed = by t.0 refl (λ fails. scanned_each P tests refused.1 (λ none. passed (fails, none)))
@@ -30,8 +29,8 @@ scanned_each P (t ∷ tests) refused passed = by t.0 refl (λ fails. scanned_eac
 
 -- two lists in a row
 abbrev or_after : Verdict → Verdict → Verdict
-or_after (Refused why) later = Refused why
-or_after Allowed later = later
+or_after (Err why) later = Err why
+or_after (Ok _) later = later
 
 first_of_both : (ts us : List Test) → first_of (ts ++ us) ≡ or_after (first_of ts) (first_of us)
 first_of_both [] us = refl
@@ -41,8 +40,8 @@ first_of_both (t ∷ ts) us = rw (first_of_both ts us) (by t.0)
     by true = refl
     by false = refl
 
-pub first_refuses : (ts us : List Test) {why : Refusal} → first_of ts ≡ Refused why → first_of (ts ++ us) ≡ Refused why
+pub first_refuses : (ts us : List Test) {why : Refusal} → first_of ts ≡ Err why → first_of (ts ++ us) ≡ Err why
 first_refuses ts us h = first_of_both ts us ∙ rw h
 
-pub first_passes : (ts us : List Test) → first_of ts ≡ Allowed → first_of (ts ++ us) ≡ first_of us
+pub first_passes : (ts us : List Test) → first_of ts ≡ Ok tt → first_of (ts ++ us) ≡ first_of us
 first_passes ts us h = first_of_both ts us ∙ rw h

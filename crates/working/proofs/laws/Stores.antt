@@ -4,26 +4,24 @@
 -- place has another title. All go by induction over the places, each of 293 bytes at the front of those behind it. A title tells its name, since no letter is 0.
 -- Assumes nothing.
 use Prim.Native.Nat.{suc, zero, ℕ, ◌*◌, ◌+◌, ◌≤◌}
+use Rattle.std.specs.Prelude.{Err, None, Ok, Option, Some}
 use Rattle.working.proofs.invariant.Made.{length_padded}
 use Rattle.working.proofs.laws.Scans.{scanned_each}
 use Rattle.working.proofs.laws.Shelves.{same_title, same_when, spelt, title_made}
 use Rattle.working.proofs.laws.Tests.{and, both, clash, each_holds, every_holds}
 use Rattle.working.proofs.theorems.Positions.{bytes_same, read_then_written, same_bytes_lem}
 use Rattle.working.specs.Entries.{every, pasted}
-use Rattle.working.specs.Positions.{byte_at, if_allowed, is_position, refusal_in, same_bytes}
-use Rattle.working.specs.Refusals.{first_of, or_else}
+use Rattle.working.specs.Positions.{byte_at, if_allowed, is_position, same_bytes}
+use Rattle.working.specs.Refusals.{Verdict, first_of, or_else, refusal_in}
 use Rattle.working.specs.Shelves.{Fetches, Stores, fetch_tests, fetched_from, is_among, is_letter, is_name, is_shelf, is_title, is_zero, letters_in, place_for, place_named}
 use Rattle.working.specs.Shelves.{places_made, position_in, store_tests, stored_in, title_in, title_of, used_well}
 use Rattle.working.specs.declared.Refusal.TheVariants.{BufferTooShort, UnknownName}
-use Rattle.working.specs.declared.Verdict.TheVariants.{Allowed, Refused}
-use Rattle.working.specs.declared.Verdict.{Verdict}
 use borrow.Author.Tests.{eq-eqb, eqb-true, le-ltb, leb-true, ne_eqb, not-false, not-true}
 use lib.Dec.{eqb, eqb-suc-suc, leb, ltb}
 use lib.ListN.{drop, get_or-eq_default, length, length-append, length-drop, length-replicate, replicate, take, take-append-drop}
 use lib.Seq.{drop-append-add, drop_at, get_or-append-add, length-take-le, take-add, take-append-add, take_at}
 use mathlib.Core.Bool.{Bool, cond, false, false≢true, not, or-true, true, true≢false, ◌&&◌}
 use mathlib.Core.List.{List, [], append_assoc, ◌++◌, ◌∷◌}
-use mathlib.Core.Option.{Option, none, some}
 use mathlib.Core.Path.{ap, refl, subst, sym, ◌∙◌, ◌≡◌}
 use native.Mathlib.Omega.{arith}
 
@@ -182,7 +180,7 @@ places_of (suc n) places long made = by (is_zero (take 293 places)) made (places
     rest : List ℕ
     rest = drop 293 places
 
-    by : (none : Bool) → cond none (is_zero places) (used_well n places && places_made n rest) ≡ true → (places_made n rest ≡ true → Places n rest) → Places (suc n) places
+    by : (None : Bool) → cond None (is_zero places) (used_well n places && places_made n rest) ≡ true → (places_made n rest ≡ true → Places n rest) → Places (suc n) places
     by true zeros later = unused long zeros
     by false made later =
         let (here, behind) = both (used_well n places) (places_made n rest) made in
@@ -210,12 +208,12 @@ places-made (used {n} {title} {position} {rest} u p) =
 -- ---- what is read under a title
 
 abbrev read_from : ℕ → List ℕ → Option (List ℕ)
-read_from i places = cond (eqb (byte_at places (293 * i)) 0) none (some (position_in (drop (293 * i) places)))
+read_from i places = cond (eqb (byte_at places (293 * i)) 0) None (Some (position_in (drop (293 * i) places)))
 
 abbrev reading : List ℕ → ℕ → List ℕ → Option (List ℕ)
 reading title n places = read_from (place_for title n places) places
 
-read_here : {n : ℕ} {title position rest : List ℕ} → Used n title position rest → reading title (suc n) ((title ++ position) ++ rest) ≡ some position
+read_here : {n : ℕ} {title position rest : List ℕ} → Used n title position rest → reading title (suc n) ((title ++ position) ++ rest) ≡ Some position
 read_here {title = title} u = rw (place_here u title (bytes_same title), starts u, (at u).kept)
 
 read_later : {n : ℕ} {title position rest : List ℕ} → Used n title position rest → (other : List ℕ) → same_bytes title other ≡ false
@@ -223,7 +221,7 @@ read_later : {n : ℕ} {title position rest : List ℕ} → Used n title positio
 read_later {n} {rest = rest} u other differs =
     rw (place_later u other differs, (at u).byte_on (place_for other n rest), (at u).drop_on (place_for other n rest))
 
-read-unused : (title : List ℕ) (n : ℕ) (places : List ℕ) → is_zero places ≡ true → reading title n places ≡ none
+read-unused : (title : List ℕ) (n : ℕ) (places : List ℕ) → is_zero places ≡ true → reading title n places ≡ None
 read-unused title n places h = rw (zero_byte places (293 * place_for title n places) h)
 
 -- ---- a store
@@ -235,7 +233,7 @@ stored title position n places = pasted places (293 * place_for title n places) 
 -- and what that leaves
 record Leaves (title position : List ℕ) (n : ℕ) (places after : List ℕ) : Type 0 where
   made : Places n after
-  there : reading title n after ≡ some position
+  there : reading title n after ≡ Some position
   others : (u : List ℕ) → is_title u ≡ true → same_bytes title u ≡ false → (reading u n after ≡ reading u n places) × (is_among u n after ≡ is_among u n places)
   titles : (i : ℕ) → eqb (byte_at places (293 * i)) 0 ≡ false → title_in (drop (293 * i) after) ≡ title_in (drop (293 * i) places)
 
@@ -321,7 +319,7 @@ kept_in shelf name = reading (title_of name) 16 shelf
 
 pub record StoreLeaves (shelf name position after : List ℕ) : Type 0 where
   pub made : is_shelf after ≡ true
-  pub there : kept_in after name ≡ some position
+  pub there : kept_in after name ≡ Some position
   pub others : (other : List ℕ) → is_name other ≡ true → same_bytes other name ≡ false → kept_in after other ≡ kept_in shelf other
   pub titles : (i : ℕ) → eqb (byte_at shelf (293 * i)) 0 ≡ false → title_in (drop (293 * i) after) ≡ title_in (drop (293 * i) shelf)
 
@@ -348,18 +346,18 @@ empty_made =
     let (long, made) = places-made (unused {n = 16} (length-replicate {A = ℕ} 4688 0) (zero_replicate 4688)) in
     and (eqb (length (replicate {A = ℕ} 4688 0)) 4688) (places_made 16 (replicate 4688 0)) (eq-eqb (length (replicate {A = ℕ} 4688 0)) 4688 long) made
 
-pub zero_keeps : (shelf : List ℕ) → is_zero shelf ≡ true → (name : List ℕ) → kept_in shelf name ≡ none
+pub zero_keeps : (shelf : List ℕ) → is_zero shelf ≡ true → (name : List ℕ) → kept_in shelf name ≡ None
 zero_keeps shelf zeros name = read-unused (title_of name) 16 shelf zeros
 
 -- ---- a fetch, by what the shelf keeps under its name
 
 abbrev pub verdict_on : Option (List ℕ) → List ℕ → Verdict
-verdict_on none buffer = Refused UnknownName
-verdict_on (some position) buffer = or_else (ltb (length buffer) 281) BufferTooShort Allowed
+verdict_on None buffer = Err UnknownName
+verdict_on (Some position) buffer = or_else (ltb (length buffer) 281) BufferTooShort (Ok tt)
 
 abbrev pub given_from : Option (List ℕ) → List ℕ → List ℕ
-given_from none buffer = buffer
-given_from (some position) buffer = pasted buffer 0 position
+given_from None buffer = buffer
+given_from (Some position) buffer = pasted buffer 0 position
 
 fetch_by : (shelf name buffer : List ℕ) → is_shelf shelf ≡ true → is_name name ≡ true
     → (first_of (fetch_tests shelf name buffer) ≡ verdict_on (kept_in shelf name) buffer)
@@ -371,9 +369,9 @@ fetch_by shelf name buffer made is = rw (made, is) (by (eqb (byte_at shelf (293 
     there = position_in (drop (293 * place_named shelf name) shelf)
 
     by : (none_there : Bool)
-        → (or_else none_there UnknownName (or_else (ltb (length buffer) 281) BufferTooShort Allowed) ≡ verdict_on (cond none_there none (some there)) buffer)
-        × (if_allowed (or_else none_there UnknownName (or_else (ltb (length buffer) 281) BufferTooShort Allowed)) buffer (pasted buffer 0 there)
-        ≡ if_allowed (verdict_on (cond none_there none (some there)) buffer) buffer (given_from (cond none_there none (some there)) buffer))
+        → (or_else none_there UnknownName (or_else (ltb (length buffer) 281) BufferTooShort (Ok tt)) ≡ verdict_on (cond none_there None (Some there)) buffer)
+        × (if_allowed (or_else none_there UnknownName (or_else (ltb (length buffer) 281) BufferTooShort (Ok tt))) buffer (pasted buffer 0 there)
+        ≡ if_allowed (verdict_on (cond none_there None (Some there)) buffer) buffer (given_from (cond none_there None (Some there)) buffer))
     by true = (refl, refl)
     by false = (refl, refl)
 
@@ -425,18 +423,18 @@ pub fetch_of : (shelf name buffer : List ℕ) → is_shelf shelf ≡ true → is
     → Fetches shelf name buffer (refusal_in (verdict_on (kept_in shelf name) buffer)) (if_allowed (verdict_on (kept_in shelf name) buffer) buffer (given_from (kept_in shelf name) buffer))
 fetch_of shelf name buffer made is = let (verdict, gives) = fetch_by shelf name buffer made is in record { answered = ap refusal_in (sym verdict); left = sym gives }
 
-pub fetch_given : (shelf name buffer : List ℕ) {position : List ℕ} → is_shelf shelf ≡ true → is_name name ≡ true → kept_in shelf name ≡ some position → 281 ≤ length buffer
+pub fetch_given : (shelf name buffer : List ℕ) {position : List ℕ} → is_shelf shelf ≡ true → is_name name ≡ true → kept_in shelf name ≡ Some position → 281 ≤ length buffer
     → Fetches shelf name buffer 0 (pasted buffer 0 position)
 fetch_given shelf name buffer made is there room = rw (there, le-ltb (length buffer) 281 room) at (fetch_of shelf name buffer made is)
 
 -- there is room for a name that is on the shelf; on an empty shelf; and behind one other name there
-pub room-kept : (shelf name : List ℕ) {position : List ℕ} → is_shelf shelf ≡ true → kept_in shelf name ≡ some position → eqb (place_named shelf name) 16 ≡ false
+pub room-kept : (shelf name : List ℕ) {position : List ℕ} → is_shelf shelf ≡ true → kept_in shelf name ≡ Some position → eqb (place_named shelf name) 16 ≡ false
 unfolding is_shelf
 room-kept shelf name made there =
     ne_eqb (place_named shelf name) 16 (λ last.
     let long : length shelf ≡ 4688 = eqb-true (length shelf) 4688 (both (eqb (length shelf) 4688) (places_made 16 shelf) made).0 in
     let nothing : eqb (byte_at shelf 4688) 0 ≡ true = eq-eqb (byte_at shelf 4688) 0 (get_or-eq_default shelf 0 {n = 4688} (omega arith)) in
-    let z : none ≡ some _ = sym (rw (last, nothing)) ∙ there in
+    let z : None ≡ Some _ = sym (rw (last, nothing)) ∙ there in
     let f : ◌≡◌ {A = ℕ} 0 1 = cc in
     omega arith)
 

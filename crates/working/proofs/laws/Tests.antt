@@ -1,11 +1,10 @@
 -- Tests: what a conjunction, a disjunction, a comparison with 0 and a list of tests say of their parts; and that a list gives no refusal of a number which none of its tests has.
 -- Assumes nothing.
 use Prim.Native.Nat.{ℕ, ◌<◌, ◌≤◌}
+use Rattle.std.specs.Prelude.{Err, Ok}
 use Rattle.working.specs.Entries.{every}
-use Rattle.working.specs.Refusals.{Test, first_of, number_of, or_else}
+use Rattle.working.specs.Refusals.{Test, Verdict, first_of, number_of, or_else}
 use Rattle.working.specs.declared.Refusal.{Refusal}
-use Rattle.working.specs.declared.Verdict.TheVariants.{Allowed, Refused}
-use Rattle.working.specs.declared.Verdict.{Verdict}
 use borrow.Author.Tests.{eqb-false, le-ltb, ltb-false}
 use lib.Dec.{eqb, ltb}
 use mathlib.Core.Bool.{Bool, cond, false, false≢true, not, true, true≢false, ◌&&◌, ◌||◌}
@@ -82,11 +81,11 @@ abbrev pub NoneHolds : List Test → Type 0
 NoneHolds [] = Unit {0}
 NoneHolds (t ∷ ts) = (t.0 ≡ false) × NoneHolds ts
 
-test_fails : (test : Bool) (why : Refusal) (later : Verdict) → or_else test why later ≡ Allowed → (test ≡ false) × (later ≡ Allowed)
+test_fails : (test : Bool) (why : Refusal) (later : Verdict) → or_else test why later ≡ Ok tt → (test ≡ false) × (later ≡ Ok tt)
 test_fails true why later e = (cc, cc)
 test_fails false why later e = (refl, e)
 
-pub none_holds : (ts : List Test) → first_of ts ≡ Allowed → NoneHolds ts
+pub none_holds : (ts : List Test) → first_of ts ≡ Ok tt → NoneHolds ts
 none_holds [] e = tt
 none_holds (t ∷ ts) e = let p = test_fails t.0 t.1 (first_of ts) e in (p.0, none_holds ts p.1)
 
@@ -101,8 +100,8 @@ abbrev pub is_not : ℕ → Refusal → Bool
 is_not n why = not (eqb (number_of why) n)
 
 abbrev pub IsNot : ℕ → Verdict → Type 0
-IsNot n (Refused why) = is_not n why ≡ true
-IsNot n Allowed = Unit {0}
+IsNot n (Err why) = is_not n why ≡ true
+IsNot n (Ok _) = Unit {0}
 
 -- computed on each list as it stands
 abbrev pub none_is : ℕ → List Test → Bool

@@ -6,6 +6,7 @@
 -- (`train_speed_lem`); and a RETURN which document 01 lets go has passed every test that is left.
 -- Assumes nothing.
 use Prim.Native.Nat.{ℕ, ◌<◌}
+use Rattle.std.specs.Prelude.{Err, Ok}
 use Rattle.working.proofs.invariant.Changes.{Change, arrival, change, departure, emptying, meeting, named_there, refusal, step_is, well_at}
 use Rattle.working.proofs.invariant.Invariant.{Halves, far_holds}
 use Rattle.working.proofs.invariant.Made.{Well, other_sender, vehicles_with}
@@ -26,7 +27,7 @@ use Rattle.working.specs.Document01.{on_decoded_by, plan_of_01, return_tests_01,
 use Rattle.working.specs.Effects.{Arrive, Depart, Plan, Refuse, arrive_desk, effect_of, granted_in, other_desk, own_desk, replied, train_speed}
 use Rattle.working.specs.Events.{At, Bad, Begin, Decoded, Meet, Resume, Says, decode}
 use Rattle.working.specs.Reasons.{depart_tests, may_enter, return_tests, tests_of, train_tests}
-use Rattle.working.specs.Refusals.{Test, first_of}
+use Rattle.working.specs.Refusals.{Test, Verdict, first_of}
 use Rattle.working.specs.Runs.{Done, Run, accepts_by, next, stop}
 use Rattle.working.specs.Sections.{desk_of, fresh_desk, insert_at, nearest_at, none_refused, other_at, vehicles_of, with_desk, with_holds, with_vehicles}
 use Rattle.working.specs.Speeds.{follows}
@@ -42,8 +43,6 @@ use Rattle.working.specs.declared.Station.TheVariants.{A, B}
 use Rattle.working.specs.declared.Station.{Station}
 use Rattle.working.specs.declared.Stepped.{Stepped}
 use Rattle.working.specs.declared.Vehicle.{Vehicle}
-use Rattle.working.specs.declared.Verdict.TheVariants.{Allowed, Refused}
-use Rattle.working.specs.declared.Verdict.{Verdict}
 use Rattle.working.specs.declared.View.TheVariants.{Clear, Impaired, Night}
 use Rattle.working.specs.declared.View.{View}
 use borrow.Author.Tests.{lt-ltb, ltb-false, ltb-true}
@@ -182,12 +181,12 @@ record ActAs (act : Act) (x : Station) (force : Bool) (d : Desk) (time : ℕ) (v
   allowed : Allowed01 act d
 
 act_as : (act : Act) (x : Station) (force : Bool) (d o : Desk) (time : ℕ) (l : List Vehicle) → Well x d o l → Between x d o l → RepliesLast x d o l
-    → first_of (tests_by return_tests_01 train_tests_01 act x force d time (nearest_at x l)) ≡ Allowed → ActAs act x force d time (nearest_at x l)
+    → first_of (tests_by return_tests_01 train_tests_01 act x force d time (nearest_at x l)) ≡ Ok tt → ActAs act x force d time (nearest_at x l)
 act_as (acts.Open view class asked) x force d o time l w h k passes = record { plan = unfigured _; allowed = tt }
 act_as (acts.Through view) x force d o time l w h k passes = record { plan = unfigured _; allowed = tt }
 act_as (acts.Return asked granted) x force d o time l w h k passes =
     let own = (depart_passes force d time (return_tests_01 d granted) (none_holds (depart_tests force d time (return_tests_01 d granted)) passes)).own in
-    let today : first_of (depart_tests force d time (return_tests d granted)) ≡ Allowed = rw own.0 at passes in
+    let today : first_of (depart_tests force d time (return_tests d granted)) ≡ (Ok tt) = rw own.0 at passes in
     record { plan = rw (passes, today) (unfigured _); allowed = tt }
 act_as (acts.Train endorsed view asked granted) x force d o time l w h k passes =
     let own = (depart_passes force d time (train_tests_01 d granted) (none_holds (depart_tests force d time (train_tests_01 d granted)) passes)).own in
@@ -215,9 +214,9 @@ Allows s (Says (At x time act)) = Allowed01 act (desk_of s x)
 Allows s (Says (Meet x sender form)) = Unit {0}
 Allows s (Says Resume) = Unit {0}
 
-passes01 : (s : Section) (e : Decoded) (x : Station) (v : Verdict) (p : Plan) → is_accepted (done_by s e x (unless_refused v p)).answer ≡ true → v ≡ Allowed
-passes01 s e x (Refused why) p accepted = absurd (false≢true accepted)
-passes01 s e x Allowed p accepted = refl
+passes01 : (s : Section) (e : Decoded) (x : Station) (v : Verdict) (p : Plan) → is_accepted (done_by s e x (unless_refused v p)).answer ≡ true → v ≡ Ok tt
+passes01 s e x (Err why) p accepted = absurd (false≢true accepted)
+passes01 s e x (Ok _) p accepted = refl
 
 -- what a plan with a second figure comes to has that figure in its answer, and nothing else altered
 done_figured : (s : Section) (e : Decoded) (x : Station) (follower : Bool) (p : Plan) → done_by s e x (figured follower p) ≡ altered follower with_second_figure (done_by s e x p)
@@ -255,7 +254,7 @@ last-emptied = record { own = none; far = none }
     none : ReplyLast fresh_desk []
     none = record { waiting = refl; owes = λ some. refl; near = refl }
 
-last_change : (s : Section) (e : Decoded) (r : Stepped) → Good s → RepliesLastIn s → Allows s e → Change s e r → RepliesLastIn r.section
+last_change : (s : Section) (e : Decoded) (r : Stepped Section) → Good s → RepliesLastIn s → Allows s e → Change s e r → RepliesLastIn r.section
 last_change s e r g k allows (refusal step why) = k
 last_change s e r g k allows (emptying step force) = last-emptied
 last_change s e r g k allows (departure x time act {p} f leaves w) =
@@ -296,7 +295,7 @@ list_as {s} g k (next {t = t} {d = d} {l = l} h r) accepted =
     let (first, others) = both (is_accepted (step_of_01 s d.bytes).answer) (accepts_by step_of_01 (step_of_01 s d.bytes).section l) accepted in
     let (same, replies) = step_as s d.bytes g k first in
     let left = (step_did d s t h).left in
-    let there : t ≡ (step_of_01 s d.bytes).section = left ∙ ap (λ (z : Stepped). z.section) same in
+    let there : t ≡ (step_of_01 s d.bytes).section = left ∙ ap (λ (z : Stepped Section). z.section) same in
     let (later, replies-then) = list_as (rw left (good_step s d.bytes g)) (rw left replies) r (rw there others) in
     (next_as left same refl later, replies-then)
 

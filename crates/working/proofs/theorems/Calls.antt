@@ -16,15 +16,14 @@ use Rattle.working.proofs.theorems.Positions.{bytes_same, position_fresh, positi
 use Rattle.working.specs.Calls.{Call, CallBy, Calls, CallsHold, Histories, Kept, LastStored, answered_by, fetched, history_of, is_store_of, leads_to, leaves_all, next, no_history}
 use Rattle.working.specs.Calls.{none_answered, none_stores, start, stepped, steps_from, stop, stored, with_call, with_calls}
 use Rattle.working.specs.Entries.{every, pasted}
-use Rattle.working.specs.Positions.{if_allowed, is_position, position_of, refusal_in, refusal_of, same_bytes, section_at, step_tests}
-use Rattle.working.specs.Refusals.{first_of}
+use Rattle.working.specs.Positions.{if_allowed, is_position, position_of, same_bytes, section_at, step_tests}
+use Rattle.working.specs.Refusals.{Verdict, first_of, refusal_in}
 use Rattle.working.specs.Runs as runs
 use Rattle.working.specs.Runs.{Run, in_place}
 use Rattle.working.specs.Sections.{fresh}
 use Rattle.working.specs.Shelves.{fetch_tests, fetched_from, is_name, is_shelf, place_named, store_tests, stored_in}
 use Rattle.working.specs.Steps.{step_of}
 use Rattle.working.specs.declared.Section.{Section}
-use Rattle.working.specs.declared.Verdict.{Verdict}
 use borrow.Author.Tests.{ltb-false, ne_eqb, not-false, not-true}
 use lib.Dec.{eqb}
 use lib.ListN.{drop, drop_of_length-le, length, length-take, take, take-append-drop}
@@ -203,7 +202,7 @@ module _ {l : List Call} {k : Kept} (h : Holds l k) where
 
       abbrev Steps : Verdict → Type 0
       Steps v =
-          answer ≡ if_allowed v (refusal_in v) (refusal_of (step_of (section_at k.position) entry).answer)
+          answer ≡ if_allowed v (refusal_in v) (refusal_in (step_of (section_at k.position) entry).answer)
           → m.position ≡ if_allowed v k.position (position_of (step_of (section_at k.position) entry).section)
           → Holds (l ++ step ∷ []) m
 

@@ -4,6 +4,7 @@
 -- and a station that holds line clears and owes some is asked for none, so that a TRAIN's grant while it owes is above what is asked: that half of 16 never decides alone.
 -- Assumes nothing.
 use Prim.Native.Nat.{ℕ, ◌+◌, ◌<◌}
+use Rattle.std.specs.Prelude.{Err, Ok}
 use Rattle.working.proofs.invariant.Changes.{step_is, well_at}
 use Rattle.working.proofs.invariant.Invariant.{Halves, all-owed, is_last, owed_for, owed_over, train_one, weigh_snoc}
 use Rattle.working.proofs.invariant.Preserved.{kept_at}
@@ -15,18 +16,17 @@ use Rattle.working.proofs.laws.Vehicles.{From, nearest, not_own, ordered_far}
 use Rattle.working.proofs.theorems.Demand3.{kept}
 use Rattle.working.specs.Acts as acts
 use Rattle.working.specs.Acts.{Act}
+use Rattle.working.specs.Answers.{Answer}
 use Rattle.working.specs.Effects.{Plan}
 use Rattle.working.specs.Entries.{entry_in, entry_tests, judge, length_of, map_in, read_as, read_at}
 use Rattle.working.specs.Events.{At, Bad, Begin, Decoded, Event, Meet, Resume, Said, Says, decode, event_of, said_as}
 use Rattle.working.specs.Reasons.{begin_tests, find_of, meet_tests, resume_tests, tests_of}
-use Rattle.working.specs.Refusals.{Test, first_of}
+use Rattle.working.specs.Refusals.{Test, Verdict, first_of}
 use Rattle.working.specs.Runs.{Done, Run, StepBy, next}
 use Rattle.working.specs.Sections.{desk_of, fresh, nearest_at, number_at, other_at, vehicles_of}
 use Rattle.working.specs.Steps.{done_by, entered, on_decoded, plan_of, settled, unless_refused}
 use Rattle.working.specs.Terms.{given_up_in, is_train, kind_in}
 use Rattle.working.specs.WellMade.{is_from}
-use Rattle.working.specs.declared.Answer.TheVariants as answer
-use Rattle.working.specs.declared.Answer.{Answer}
 use Rattle.working.specs.declared.Desk.{Desk}
 use Rattle.working.specs.declared.Entry.{Entry}
 use Rattle.working.specs.declared.Movement.TheVariants.{LastTrain, Open, Return, Through, Train}
@@ -36,8 +36,6 @@ use Rattle.working.specs.declared.Station.{Station}
 use Rattle.working.specs.declared.Table.TheVariants.{SingleLine}
 use Rattle.working.specs.declared.Table.{Table}
 use Rattle.working.specs.declared.Vehicle.{Vehicle}
-use Rattle.working.specs.declared.Verdict.TheVariants.{Allowed, Refused}
-use Rattle.working.specs.declared.Verdict.{Verdict}
 use lib.ListN.{length}
 use mathlib.Core.Bool.{Bool, false≢true, true}
 use mathlib.Core.List.{List, [], ◌++◌, ◌∷◌}
@@ -48,24 +46,24 @@ use native.Mathlib.Omega.{arith}
 
 -- an answer that is no 5
 abbrev pub Fine : Answer → Type 0
-Fine (answer.Refused why) = is_not 5 why ≡ true
-Fine (answer.Accepted number forms speed) = Unit {0}
+Fine (Err why) = is_not 5 why ≡ true
+Fine (Ok _) = Unit {0}
 
 module _ (s : Section) where
   fine_settled : (e : Decoded) (ts : List Test) (t : Section) → none_is 5 ts ≡ true → Fine (settled s e (first_of ts) t).answer
   fine_settled e ts t h = by (first_of ts) (first_is_not 5 ts h)
     where
       by : (v : Verdict) → IsNot 5 v → Fine (settled s e v t).answer
-      by (Refused why) h = h
-      by Allowed h = tt
+      by (Err why) h = h
+      by (Ok _) h = tt
 
   fine_done : (e : Decoded) (x : Station) (ts : List Test) (p : Plan) → none_is 5 ts ≡ true → Fine (done_by s e x p).answer
       → Fine (done_by s e x (unless_refused (first_of ts) p)).answer
   fine_done e x ts p h ok = by (first_of ts) (first_is_not 5 ts h)
     where
       by : (v : Verdict) → IsNot 5 v → Fine (done_by s e x (unless_refused v p)).answer
-      by (Refused why) h = h
-      by Allowed h = ok
+      by (Err why) h = h
+      by (Ok _) h = ok
 
   fine_act : (e : Decoded) (x : Station) (act : Act) (force : Bool) (d : Desk) (time : ℕ) (v : Vehicle) → Fine (done_by s e x (plan_of act x force d time v)).answer
   fine_act e x (acts.Open view class asked) force d time v = fine_done e x (tests_of (acts.Open view class asked) x force d time v) _ refl tt
@@ -91,8 +89,8 @@ unfolding judge
 fine_said table event bytes = by_found (found table bytes 0)
   where
     by_verdict : (v : Verdict) → IsNot 5 v → FineSaid (said_as event (read_as v (entry_in bytes) (0 + length_of (map_in bytes))))
-    by_verdict (Refused why) h = h
-    by_verdict Allowed h = tt
+    by_verdict (Err why) h = h
+    by_verdict (Ok _) h = tt
 
     by_found : Found table bytes 0 → FineSaid (said_as event (read_at table bytes 0))
     by_found (the_end r) = rw r refl

@@ -2,6 +2,7 @@
 -- + the three. A step on a well-made section leaves a count as it is, or adds 1 where it refuses and the step is theirs (laws/Counts says the rest, of either line).
 -- Assumes nothing.
 use Prim.Native.Nat.{ℕ}
+use Rattle.std.specs.Prelude.{None, Option, Some}
 use Rattle.working.proofs.invariant.Changes.{Change, Sound, arrival, change, departure, emptying, meeting, refusal, sound_emptied, sound_step}
 use Rattle.working.proofs.laws.Counts.{counted_for, counted_from}
 use Rattle.working.proofs.laws.Turns.{entries-sum}
@@ -18,8 +19,6 @@ use Rattle.working.specs.declared.Station.{Station}
 use Rattle.working.specs.declared.Stepped.{Stepped}
 use Rattle.working.specs.declared.Table.TheVariants.{SingleLine}
 use Rattle.working.specs.declared.Vehicle.{Vehicle}
-use Rattle.working.specs.declared.Whose.TheVariants.{NoStation, Of}
-use Rattle.working.specs.declared.Whose.{Whose}
 use lib.ListN.{drop}
 use mathlib.Core.Bool.{false}
 use mathlib.Core.List.{List}
@@ -32,7 +31,7 @@ same_counts : (s : Section) (x : Station) (d : Desk) (l : List Vehicle) → (wit
 same_counts s A d l = refl
 same_counts s B d l = refl
 
-counted : (s : Section) (e : Decoded) (r : Stepped) → Change s e r → r.section.refused ≡ counted_for r.answer (whose_is e) s.refused
+counted : (s : Section) (e : Decoded) (r : Stepped Section) → Change s e r → r.section.refused ≡ counted_for r.answer (whose_is e) s.refused
 counted s e r (refusal k why) = refl
 counted s e r (emptying k force) = refl
 counted s e r (departure x time act f p w) = same_counts s x _ _
@@ -50,7 +49,7 @@ counted_at s log at g = rw (← says_there log at) (counted s (decode (drop at l
 pub logs_counted : LogsCounted
 logs_counted log short =
     let turns = turns_of single fresh log in
-    let each : (whose : Whose) → count_of (section_after fresh turns).refused whose ≡ refused_in whose turns =
+    let each : (whose : Option Station) → count_of (section_after fresh turns).refused whose ≡ refused_in whose turns =
     λ whose. counted_from single (λ read. whose_is (decoded_as read)) (λ (s : Section). s.refused) Sound (λ s log at g. sound_step s (drop at log) g) counted_at whose log
     fresh (sound_emptied false none_refused) refl short in
-    record { each = each; sum = omega (arith, entries-sum turns, each (Of A), each (Of B), each NoStation) }
+    record { each = each; sum = omega (arith, entries-sum turns, each (Some A), each (Some B), each None) }

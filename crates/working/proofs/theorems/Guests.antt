@@ -6,6 +6,7 @@
 -- on RETURN keeps the invariant as today's does, and what is shown of its lists follows.
 -- Assumes nothing.
 use Prim.Native.Nat.{ℕ, ◌+◌, ◌<◌}
+use Rattle.std.specs.Prelude.{Err, Ok}
 use Rattle.working.proofs.examples.Computing.{reading_computes, step_computes}
 use Rattle.working.proofs.examples.Consequences.{holding, list}
 use Rattle.working.proofs.examples.Literals.{opens, receive, returns}
@@ -15,19 +16,18 @@ use Rattle.working.proofs.laws.Lists.{ListAs, after, done, each_result, next_as,
 use Rattle.working.proofs.laws.Tests.{IsNot, first_is_not, zero_unless}
 use Rattle.working.proofs.theorems.Demand3.{kept}
 use Rattle.working.specs.Acts as acts
+use Rattle.working.specs.Answers.{Answer, accept}
 use Rattle.working.specs.Document01.{altered, on_decoded_by, return_tests_01}
 use Rattle.working.specs.Effects.{effect_of, way_form}
 use Rattle.working.specs.Events.{At, Bad, Begin, Decoded, Meet, Resume, Says, decode}
 use Rattle.working.specs.Guests.{AnsweredAsWith11, GuestsToday, GuestsWith11, GuestsWithoutClears, NoGuestAt11, answer_with_14}
 use Rattle.working.specs.Guests.{plan_with_11, reason_with_14, returns_with_14, says_return, step_with_11}
 use Rattle.working.specs.Reasons.{depart_tests, last_tests, return_tests}
-use Rattle.working.specs.Refusals.{Test, first_of, number_of, or_else}
+use Rattle.working.specs.Refusals.{Test, Verdict, first_of, number_of, or_else}
 use Rattle.working.specs.Runs.{Done, Run, end_by, next, results, results_by, stop}
 use Rattle.working.specs.Sections.{desk_of, fresh, nearest_at, none_refused, number_at, other_at, vehicles_of}
 use Rattle.working.specs.Steps.{done_by, entered, on_decoded, step_of, unless_refused}
 use Rattle.working.specs.WellMade.{well_made}
-use Rattle.working.specs.declared.Answer.TheVariants as answer
-use Rattle.working.specs.declared.Answer.{Answer}
 use Rattle.working.specs.declared.Desk.{Desk}
 use Rattle.working.specs.declared.Refusal.TheVariants.{BeforeClock, GrantNotAllowed, HoldsLineClear, NoGuest, NotInForce}
 use Rattle.working.specs.declared.Refusal.{Refusal}
@@ -36,8 +36,6 @@ use Rattle.working.specs.declared.Speed.TheVariants.{Booked}
 use Rattle.working.specs.declared.Station.TheVariants.{A, B}
 use Rattle.working.specs.declared.Station.{Station}
 use Rattle.working.specs.declared.Stepped.{Stepped}
-use Rattle.working.specs.declared.Verdict.TheVariants.{Allowed, Refused}
-use Rattle.working.specs.declared.Verdict.{Verdict}
 use borrow.Author.Tests.{eq-eqb, ltb-true, not-true}
 use lib.Dec.{eqb, ltb}
 use mathlib.Core.Bool.{Bool, false, false≢true, not, true}
@@ -57,13 +55,13 @@ no_guest x s g holds = zero_unless (desk_of s x).guest (λ guest. omega (arith, 
 -- ---- what a RETURN reads
 
 abbrev verdict_with_14 : Verdict → Verdict
-verdict_with_14 (Refused why) = Refused (reason_with_14 why)
-verdict_with_14 Allowed = Allowed
+verdict_with_14 (Err why) = Err (reason_with_14 why)
+verdict_with_14 (Ok _) = Ok tt
 
 -- any refusal but 11 stays
 other_stays : (v : Verdict) → IsNot 11 v → v ≡ verdict_with_14 v
-other_stays (Refused why) other = rw (not-true (eqb (number_of why) 11) other)
-other_stays Allowed other = refl
+other_stays (Err why) other = rw (not-true (eqb (number_of why) 11) other)
+other_stays (Ok _) other = refl
 
 -- where no guest stands at a desk that holds a line clear, today's tests of a RETURN come to 14 where document 01's come to 11, and else to the same
 verdict_as : (force : Bool) (d : Desk) (time granted : ℕ) → (0 < d.clears.holds → d.guest ≡ 0)
@@ -84,7 +82,7 @@ verdict_as force d time granted none =
     by false false false false later other then = other_stays later other
 
 -- and document 01's come to 11 only where one is held
-eleven_holds : (force : Bool) (d : Desk) (time granted : ℕ) → first_of (depart_tests force d time (return_tests_01 d granted)) ≡ Refused HoldsLineClear → 0 < d.clears.holds
+eleven_holds : (force : Bool) (d : Desk) (time granted : ℕ) → first_of (depart_tests force d time (return_tests_01 d granted)) ≡ Err HoldsLineClear → 0 < d.clears.holds
 eleven_holds force d time granted reads = by (ltb 0 d.clears.holds) refl (first_is_not 11 (depart_tests force d time (return_tests d granted)) refl)
   where
     by : (b : Bool) → ltb 0 d.clears.holds ≡ b → IsNot 11 (first_of (depart_tests force d time (return_tests d granted))) → 0 < d.clears.holds
@@ -94,19 +92,19 @@ eleven_holds force d time granted reads = by (ltb 0 d.clears.holds) refl (first_
 -- ---- the step
 
 -- what a RETURN comes to by a verdict
-abbrev return_by : Section → Station → ℕ → ℕ → ℕ → Verdict → Stepped
+abbrev return_by : Section → Station → ℕ → ℕ → ℕ → Verdict → Stepped Section
 return_by s x time asked granted v =
     let act = acts.Return asked granted in
     done_by s (Says (At x time act)) x (unless_refused v (effect_of act x (desk_of s x) time (nearest_at x (vehicles_of s))))
 
 return_as : (s : Section) (x : Station) (time asked granted : ℕ) (v : Verdict) → return_by s x time asked granted (verdict_with_14 v) ≡ altered true answer_with_14 (return_by s x time asked granted v)
-return_as s x time asked granted (Refused why) = refl
-return_as s x time asked granted Allowed = refl
+return_as s x time asked granted (Err why) = refl
+return_as s x time asked granted (Ok _) = refl
 
 -- only the verdict refuses it
-refused_by_lem : (s : Section) (x : Station) (time asked granted : ℕ) (v : Verdict) (why : Refusal) → (return_by s x time asked granted v).answer ≡ answer.Refused why → v ≡ Refused why
-refused_by_lem s x time asked granted (Refused other) why is = cc
-refused_by_lem s x time asked granted Allowed why is = cc
+refused_by_lem : (s : Section) (x : Station) (time asked granted : ℕ) (v : Verdict) (why : Refusal) → (return_by s x time asked granted v).answer ≡ Err why → v ≡ Err why
+refused_by_lem s x time asked granted (Err other) why is = cc
+refused_by_lem s x time asked granted (Ok _) why is = cc
 
 decoded_as_lem : (s : Section) (e : Decoded) → Good s → on_decoded s e ≡ altered (says_return e) answer_with_14 (on_decoded_by plan_with_11 s e)
 unfolding entered
@@ -134,7 +132,7 @@ step_as s bytes g =
 -- ---- the lists
 
 same-section : (s : Section) (bytes : List ℕ) → Good s → (step_of s bytes).section ≡ (step_with_11 s bytes).section
-same-section s bytes g = ap (λ (r : Stepped). r.section) (step_as s bytes g)
+same-section s bytes g = ap (λ (r : Stepped Section). r.section) (step_as s bytes g)
 
 good_end : (l : List Done) (s : Section) → Good s → Good (end_by step_with_11 s l)
 good_end [] s g = g
@@ -172,7 +170,7 @@ answered_as_with_11 l s run = let k = list_as (good_emptied false none_refused) 
 -- a master with a guest never read 11 against a RETURN
 never_eleven : (l : List Done) (bytes : List ℕ) (x : Station) (time asked granted : ℕ)
     → let s = end_by step_with_11 fresh l in
-    decode bytes ≡ Says (At x time (acts.Return asked granted)) → 0 < (desk_of s x).guest → (step_with_11 s bytes).answer ≡ answer.Refused HoldsLineClear → ⊥
+    decode bytes ≡ Says (At x time (acts.Return asked granted)) → 0 < (desk_of s x).guest → (step_with_11 s bytes).answer ≡ Err HoldsLineClear → ⊥
 never_eleven l bytes x time asked granted says guest reads = omega (arith, no_guest_at_11 l bytes x time asked granted says reads)
 
 -- his desk had nothing held, owed or waiting, and has none today
@@ -189,18 +187,18 @@ same_but_14 {l} {s} run = let k = answered_as_with_11 l s run in (k.each, k.end)
 -- ---- such lists there are
 
 -- the section after a list of entries behind BEGIN, by a step, and the answer that it gives there
-abbrev reached : (Section → List ℕ → Stepped) → List (List ℕ) → Section
+abbrev reached : (Section → List ℕ → Stepped Section) → List (List ℕ) → Section
 reached step l = end_by step fresh (done fresh (list l))
 
-abbrev answers : (Section → List ℕ → Stepped) → List (List ℕ) → List ℕ → Answer
+abbrev answers : (Section → List ℕ → Stepped Section) → List (List ℕ) → List ℕ → Answer
 answers step l bytes = (step (reached step l) bytes).answer
 
 -- station x holds two line clears: a RETURN that it enters read 11, and reads 14; an OPEN reads 11 by either step
 eleven_then_fourteen : (x : Station)
-    → (answers step_with_11 (holding x) (returns (number_at x) 91 3) ≡ answer.Refused HoldsLineClear)
-    × (answers step_of (holding x) (returns (number_at x) 91 3) ≡ answer.Refused NoGuest)
-    × (answers step_with_11 (holding x) (opens (number_at x) 91 1 2) ≡ answer.Refused HoldsLineClear)
-    × (answers step_of (holding x) (opens (number_at x) 91 1 2) ≡ answer.Refused HoldsLineClear)
+    → (answers step_with_11 (holding x) (returns (number_at x) 91 3) ≡ Err HoldsLineClear)
+    × (answers step_of (holding x) (returns (number_at x) 91 3) ≡ Err NoGuest)
+    × (answers step_with_11 (holding x) (opens (number_at x) 91 1 2) ≡ Err HoldsLineClear)
+    × (answers step_of (holding x) (opens (number_at x) 91 1 2) ≡ Err HoldsLineClear)
 unfolding step_computes step_with_11
 eleven_then_fourteen A = (refl, refl, refl, refl)
 eleven_then_fourteen B = (refl, refl, refl, refl)
@@ -212,8 +210,8 @@ visit x = opens (number_at (other_at x)) 0 1 2 ∷ receive (number_at x) 60 (num
 guest_returns : (x : Station)
     → ((desk_of (reached step_with_11 (visit x)) x).guest ≡ 1)
     × ((desk_of (reached step_of (visit x)) x).guest ≡ 1)
-    × (answers step_with_11 (visit x) (returns (number_at x) 61 2) ≡ answer.Accepted 1 (way_form x + 164) Booked)
-    × (answers step_of (visit x) (returns (number_at x) 61 2) ≡ answer.Accepted 1 (way_form x + 164) Booked)
+    × (answers step_with_11 (visit x) (returns (number_at x) 61 2) ≡ accept 1 (way_form x + 164) Booked)
+    × (answers step_of (visit x) (returns (number_at x) 61 2) ≡ accept 1 (way_form x + 164) Booked)
 unfolding step_computes step_with_11
 guest_returns A = (refl, refl, refl, refl)
 guest_returns B = (refl, refl, refl, refl)

@@ -3,35 +3,33 @@
 -- An entry says that a TRAIN is endorsed only where its kind is 9; and a vehicle's departure, which is in the list, has the kind that its record says (demand 3).
 -- Assumes nothing.
 use Prim.Native.Nat.{ℕ, ◌+◌, ◌<◌}
+use Rattle.std.specs.Prelude.{Err, None, Ok, Option, Some}
 use Rattle.working.proofs.laws.Every.{Every}
 use Rattle.working.proofs.laws.Found.{Found, cut, found, the_end, whole}
 use Rattle.working.proofs.laws.Tests.{both, clash}
 use Rattle.working.proofs.theorems.Demand3.{demand3}
 use Rattle.working.specs.Acts as acts
 use Rattle.working.specs.Acts.{Act}
+use Rattle.working.specs.Answers.{Answer}
 use Rattle.working.specs.Document01.{decode01, is_kind_nine, on_decoded_by, plan_of_01, step_of_01}
 use Rattle.working.specs.Entries.{entry_in, judge, length_of, map_in, read_as, read_at}
 use Rattle.working.specs.Events.{At, Bad, Begin, Decoded, Event, Meet, Resume, Says, decode, decoded_as, event_of, station_of, view_of}
+use Rattle.working.specs.Refusals.{Verdict}
 use Rattle.working.specs.Runs.{Done, Run, accepts_by}
 use Rattle.working.specs.Sections.{fresh, number_at}
 use Rattle.working.specs.Steps.{if_made}
 use Rattle.working.specs.Terms.{Departure, Kind, LAST-TRAIN, OPEN, RETURN, THROUGH, TRAIN, departure_by, departure_of, departure_with, if_of, kind_in, kind_of, later_or, vehicle_at}
 use Rattle.working.specs.Turns.{is_accepted}
 use Rattle.working.specs.WellMade.{well_made}
-use Rattle.working.specs.declared.Answer.TheVariants as answer
-use Rattle.working.specs.declared.Answer.{Answer}
 use Rattle.working.specs.declared.Entry.{Entry}
 use Rattle.working.specs.declared.Refusal.TheVariants.{UnknownKind}
 use Rattle.working.specs.declared.Section.{Section}
 use Rattle.working.specs.declared.Table.TheVariants.{SingleLine}
 use Rattle.working.specs.declared.Vehicle.{Vehicle}
-use Rattle.working.specs.declared.Verdict.TheVariants.{Allowed, Refused}
-use Rattle.working.specs.declared.Verdict.{Verdict}
 use borrow.Author.Tests.{le-ltb}
 use lib.Dec.{eqb}
 use mathlib.Core.Bool.{Bool, cond, false, false≢true, true, ◌&&◌}
 use mathlib.Core.List.{List, [], ◌∷◌}
-use mathlib.Core.Option.{Option, none, some}
 use mathlib.Core.Path.{ap, refl, sym, ◌∙◌, ◌≡◌}
 
 -- ---- an entry of kind 9
@@ -84,8 +82,8 @@ unfolding decode
 said_nine bytes = by_found (found SingleLine bytes 0)
   where
     by_verdict : (v : Verdict) → says_last (decoded_as (read_as v (entry_in bytes) (0 + length_of (map_in bytes)))) ≡ true → eqb (entry_in bytes).kind 9 ≡ true
-    by_verdict (Refused why) h = absurd (false≢true h)
-    by_verdict Allowed h = nine (entry_in bytes) h
+    by_verdict (Err why) h = absurd (false≢true h)
+    by_verdict (Ok _) h = nine (entry_in bytes) h
 
     by_found : Found SingleLine bytes 0 → says_last (decoded_as (read_at SingleLine bytes 0)) ≡ true → is_kind_nine bytes ≡ true
     by_found (the_end r) h = absurd (false≢true (rw r at h))
@@ -136,8 +134,8 @@ is_last TRAIN = false
 is_last LAST-TRAIN = true
 
 abbrev left_last : Option Departure → Bool
-left_last none = false
-left_last (some p) = is_last p.kind
+left_last None = false
+left_last (Some p) = is_last p.kind
 
 left_by_lem : (e : Decoded) (a : Answer) → says_last e ≡ false → left_last (departure_by e a) ≡ false
 left_by_lem (Bad why) a h = refl
@@ -145,29 +143,29 @@ left_by_lem (Says Begin) a h = refl
 left_by_lem (Says (At x time act)) a h = by act a h
   where
     by : (act : Act) (a : Answer) → is_endorsed act ≡ false → left_last (departure_with x (kind_of act) a) ≡ false
-    by (acts.Open view class asked) (answer.Refused why) h = refl
-    by (acts.Open view class asked) (answer.Accepted number forms speed) h = refl
-    by (acts.Through view) (answer.Refused why) h = refl
-    by (acts.Through view) (answer.Accepted number forms speed) h = refl
-    by (acts.Return asked granted) (answer.Refused why) h = refl
-    by (acts.Return asked granted) (answer.Accepted number forms speed) h = refl
-    by (acts.Train endorsed view asked granted) (answer.Refused why) h = refl
-    by (acts.Train endorsed view asked granted) (answer.Accepted number forms speed) h = rw h
+    by (acts.Open view class asked) (Err why) h = refl
+    by (acts.Open view class asked) (Ok _) h = refl
+    by (acts.Through view) (Err why) h = refl
+    by (acts.Through view) (Ok _) h = refl
+    by (acts.Return asked granted) (Err why) h = refl
+    by (acts.Return asked granted) (Ok _) h = refl
+    by (acts.Train endorsed view asked granted) (Err why) h = refl
+    by (acts.Train endorsed view asked granted) (Ok _) h = rw h
     by (acts.Receive sender form) a h = refl
 left_by_lem (Says (Meet x sender form)) a h = refl
 left_by_lem (Says Resume) a h = refl
 
 if_of_lem : (v : Vehicle) (q : Option Departure) → left_last q ≡ false → left_last (if_of v q) ≡ false
-if_of_lem v none h = refl
-if_of_lem v (some p) h = by (eqb (number_at p.station) v.sender && eqb p.number v.form)
+if_of_lem v None h = refl
+if_of_lem v (Some p) h = by (eqb (number_at p.station) v.sender && eqb p.number v.form)
   where
-    by : (b : Bool) → left_last (cond b (some p) none) ≡ false
+    by : (b : Bool) → left_last (cond b (Some p) None) ≡ false
     by true = h
     by false = refl
 
 later_or_lem : (q r : Option Departure) → left_last q ≡ false → left_last r ≡ false → left_last (later_or q r) ≡ false
-later_or_lem none r h k = k
-later_or_lem (some p) r h k = h
+later_or_lem None r h k = k
+later_or_lem (Some p) r h k = h
 
 left_none : (l : List Done) (v : Vehicle) → Every NotLast l → left_last (departure_of l v) ≡ false
 left_none [] v h = refl
@@ -179,5 +177,5 @@ pub none_last : {l : List Done} {s : Section} → Run fresh l s → accepts_by s
     → (i : ℕ) → i < s.len → kind_in (vehicle_at s i).movement ≡ LAST-TRAIN → ⊥
 none_last {l = l} {s = s} run accepted i there last =
     let (p, its, kind) = (demand3 run).departed i there in
-    let told : left_last (some p) ≡ true = ap is_last (kind ∙ last) in
+    let told : left_last (Some p) ≡ true = ap is_last (kind ∙ last) in
     clash told (sym (ap left_last its) ∙ left_none l (vehicle_at s i) (none_endorsed fresh l accepted))

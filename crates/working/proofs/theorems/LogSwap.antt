@@ -3,6 +3,7 @@
 -- Demand 3 swaps the two steps in the list of the log. The bytes of the list so changed are still whole entries, so that reading them gives this list again.
 -- Assumes nothing.
 use Prim.Native.Nat.{ℕ}
+use Rattle.std.specs.Prelude.{None}
 use Rattle.working.proofs.laws.ReadAgain.{Readable, log_readable, one_more_lem, read_again}
 use Rattle.working.proofs.theorems.FirstEntry.{IsEntry}
 use Rattle.working.proofs.theorems.OwnBytes.{Follow, Own, Part, and_then, cut_short, follow_joined, joined, log_follows, own-demand3, whole-entry}
@@ -21,7 +22,6 @@ use Rattle.working.specs.declared.Table.TheVariants.{SingleLine}
 use lib.ListN.{drop, length, take, take-append-drop}
 use lib.Seq.{take_at}
 use mathlib.Core.List.{List, [], append_assoc, append_cancel_left, append_cancel_right, map, map-append, map-map, ◌++◌, ◌∷◌}
-use mathlib.Core.Option.{none}
 use mathlib.Core.Path.{ap, ap₂, refl, subst, sym, ◌∙◌, ◌≡◌}
 use native.Mathlib.Omega.{arith}
 
@@ -33,7 +33,7 @@ unfolding decode
 says-whole own event l says (whole-entry is) = is
 says-whole own event l says (cut_short cut no_more) = by (read_at SingleLine own 0) says cut.1
   where
-    by : (read : Read) → decoded_as read ≡ Says event → goes_on read ≡ none → IsEntry own
+    by : (read : Read) → decoded_as read ≡ Says event → goes_on read ≡ None → IsEntry own
     by End e g = cc
     by (Whole e on) p g = cc
     by (Refused why on) e g = cc

@@ -3,6 +3,7 @@
 -- four bytes is its quotients and remainders put together again.
 -- Assumes nothing.
 use Prim.Native.Nat.{suc, zero, ℕ, ◌%◌, ◌*◌, ◌+◌, ◌/◌, ◌≤◌}
+use Rattle.std.specs.Prelude.{None, Option, Some}
 use Rattle.working.proofs.invariant.Made.{length-pad_to, length_vehicles}
 use Rattle.working.proofs.laws.Clauses.{section-made}
 use Rattle.working.proofs.laws.OwnPlaces.{own_vehicles}
@@ -14,8 +15,6 @@ use Rattle.working.specs.Sections.{fresh, vehicles_of, with_vehicles}
 use Rattle.working.specs.WellMade.{one_if, well_made}
 use Rattle.working.specs.declared.Counts.{Counts}
 use Rattle.working.specs.declared.Desk.{Desk}
-use Rattle.working.specs.declared.Interval.TheVariants.{Since, Stopped}
-use Rattle.working.specs.declared.Interval.{Interval}
 use Rattle.working.specs.declared.Movement.TheVariants.{LastTrain, Open, Return, Through, Train}
 use Rattle.working.specs.declared.Movement.{Movement}
 use Rattle.working.specs.declared.Section.{Section}
@@ -89,9 +88,9 @@ module _ (l : List ℕ) where
   unfolding counts_bytes counts_in
   counts_again c = rw (four_again c.a, four_again c.b, four_again c.none)
 
-  interval_again : (i : Interval) → interval_of (running_of i) (minute_of i) ≡ i
-  interval_again Stopped = refl
-  interval_again (Since minute) = refl
+  interval_again : (i : Option ℕ) → interval_of (running_of i) (minute_of i) ≡ i
+  interval_again None = refl
+  interval_again (Some minute) = refl
 
   desk_again : (d : Desk) → desk_in (take 14 (desk_bytes d ++ l)) ≡ d
   unfolding desk_bytes desk_in

@@ -4,6 +4,7 @@
 -- nothing and has nothing to receive. An entry of the other station before the RETURN leaves the guest's desk as it was; one behind it could stand before it, by demand 3.
 -- Assumes nothing.
 use Prim.Native.Nat.{ℕ, ◌<◌}
+use Rattle.std.specs.Prelude.{Err, Ok}
 use Rattle.working.proofs.invariant.Changes.{named_there, sound_step, step_is, well_at}
 use Rattle.working.proofs.invariant.Invariant.{Visited, cons_nil, snoc_nil}
 use Rattle.working.proofs.invariant.Made.{other_sender}
@@ -20,7 +21,7 @@ use Rattle.working.specs.Acts.{Act}
 use Rattle.working.specs.Effects.{Arrive, Depart, Plan, Refuse, effect_of}
 use Rattle.working.specs.Events.{At, Decoded, Says, decode}
 use Rattle.working.specs.Reasons.{open_tests, return_tests, tests_of, train_tests}
-use Rattle.working.specs.Refusals.{first_of}
+use Rattle.working.specs.Refusals.{Verdict, first_of}
 use Rattle.working.specs.Runs.{Done, Run, StepBy, next}
 use Rattle.working.specs.Sections.{desk_of, fresh, nearest_at, number_at, other_at, vehicles_of}
 use Rattle.working.specs.Steps.{done_by, entered, plan_of, step_of, unless_refused}
@@ -32,8 +33,6 @@ use Rattle.working.specs.declared.Section.{Section}
 use Rattle.working.specs.declared.Station.TheVariants.{A, B}
 use Rattle.working.specs.declared.Station.{Station}
 use Rattle.working.specs.declared.Stepped.{Stepped}
-use Rattle.working.specs.declared.Verdict.TheVariants.{Allowed, Refused}
-use Rattle.working.specs.declared.Verdict.{Verdict}
 use borrow.Author.Tests.{lt-ltb}
 use lib.ListN.{length}
 use mathlib.Core.Bool.{Bool, false, false≢true, true}
@@ -52,9 +51,9 @@ module _ (s : Section) (bytes : List ℕ) (x : Station) (time : ℕ) (act : Act)
   passed : is_accepted (step_of s bytes).answer ≡ true → NoneHolds (tests_of act x s.force (desk_of s x) time (nearest_at x (vehicles_of s)))
   passed ok = let tests = tests_of act x s.force (desk_of s x) time (nearest_at x (vehicles_of s)) in none_holds tests (by (first_of tests) (rw comes_to_lem at ok))
     where
-      by : (v : Verdict) → is_accepted (done_by s (Says (At x time act)) x (unless_refused v (effect_of act x (desk_of s x) time (nearest_at x (vehicles_of s))))).answer ≡ true → v ≡ Allowed
-      by Allowed h = refl
-      by (Refused why) h = absurd (false≢true h)
+      by : (v : Verdict) → is_accepted (done_by s (Says (At x time act)) x (unless_refused v (effect_of act x (desk_of s x) time (nearest_at x (vehicles_of s))))).answer ≡ true → v ≡ Ok tt
+      by (Ok _) h = refl
+      by (Err why) h = absurd (false≢true h)
 
 -- the other station's desk stays as it was
 desk_stays : (s : Section) (e : Decoded) (x : Station) (p : Plan) → desk_of (done_by s e (other_at x) p).section x ≡ desk_of s x
@@ -69,7 +68,7 @@ far_desk : (s : Section) (bytes : List ℕ) (x : Station) (time : ℕ) (act : Ac
     → desk_of (step_of s bytes).section x ≡ desk_of s x
 far_desk s bytes x time act well says =
     let plan = plan_of act (other_at x) s.force (desk_of s (other_at x)) time (nearest_at (other_at x) (vehicles_of s)) in
-    ap (λ (r : Stepped). desk_of r.section x) (comes_to_lem s bytes (other_at x) time act well says) ∙ desk_stays s (Says (At (other_at x) time act)) x plan
+    ap (λ (r : Stepped Section). desk_of r.section x) (comes_to_lem s bytes (other_at x) time act well says) ∙ desk_stays s (Says (At (other_at x) time act)) x plan
 
 -- ---- where a guest stands at x
 

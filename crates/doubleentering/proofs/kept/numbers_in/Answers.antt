@@ -4,7 +4,7 @@ use Rattle.doubleentering.proofs.Numbers.{padded, place_at, places_count}
 use Rattle.doubleentering.proofs.Sides.{side_is}
 use Rattle.doubleentering.proofs.kept.numbers_in.Goals as goal
 use Rattle.doubleentering.specs.DoubleWords.{places_in}
-use Rattle.section.proofs.Passes.{at_end, take_present}
+use Rattle.section.proofs.Passes.{take_present}
 use Rattle.std.proofs.Common.{ap, arith, length, min, rules, take, ◌∙◌, ◌≡◌}
 use Rattle.words.proofs.DeskWords.{figure_next}
 use Rattle.words.specs.Words.{ring_in, word_count}
@@ -19,10 +19,7 @@ loop-i-preserved c =
     let t = places_in (ring_in w) c.args.at in
     let count = places_count w long c.args.at in
     let next = figure_next t (replicate 12 0) i (omega arith) (omega arith) in
-    record {
-      within = omega arith;
-      so_far = rw (c.line_from-from.ensures.0, ← place_at w c.args.at i (omega arith), c.loop-i.invariant.so_far) next;
-    }
+    rw (c.line_from-from.ensures.0, ← place_at w c.args.at i (omega arith), c.loop-i.invariant) next
 
 pub returns : goal.returns
 returns c =
@@ -32,6 +29,6 @@ returns c =
     let t = places_in (ring_in w) at in
     let count = places_count w long at in
     let n = c.desk.result.sent in
-    let present : c.fitting-present.result ≡ min n 12 = omega arith in
-    at_end c.loop-i.invariant (omega arith) ∙ padded c.fitting-present.result 12 t count ∙ ap (λ k. pad_with 0 12 (take k t)) present
+    let present : c.loop-i.i ≡ min n 12 = omega arith in
+    c.loop-i.invariant ∙ padded c.loop-i.i 12 t count ∙ ap (λ k. pad_with 0 12 (take k t)) present
     ∙ ap (pad_with 0 12) (take_present t n 12 count) ∙ rw (side_is w at, c.desk.ensures)

@@ -2,13 +2,9 @@
 -- Assumes nothing.
 use Rattle.doubleentering.proofs.kept.numbers_in.Given as goal
 use Rattle.doubleentering.specs.DoubleWords.{places_in}
-use Rattle.section.proofs.Passes.{Up}
-use Rattle.std.proofs.Common.{drop, take, ℕ, ◌++◌, ◌-◌, ◌≡◌}
+use Rattle.std.proofs.Common.{drop, take, ℕ, ◌++◌, ◌≡◌}
 use Rattle.words.specs.Words.{ring_in}
 use lib.ListN.{replicate}
 
 abbrev pub invariant-loop-i : goal.invariant-loop-i
-invariant-loop-i l = Up l.present l.i (λ k. l.numbers ≡ take k (places_in (ring_in l.words) l.fn.at) ++ drop k (replicate {A = ℕ} 12 0))
-
-abbrev pub decreases-loop-i : goal.decreases-loop-i
-decreases-loop-i l = l.present - l.i
+invariant-loop-i l = l.numbers ≡ take l.i (places_in (ring_in l.words) l.fn.at) ++ drop l.i (replicate {A = ℕ} 12 0)

@@ -7,5 +7,5 @@ use Rattle.working.specs.declared.Desk.{Desk}
 
 pub returns : goal.returns
 returns c =
-    let is = c.fewer.ensures ∙ ap (◌- 1) c.fitting.ensures.0 ∙ ap (λ (d : Desk). min d.sent 12 - 1) c.desk-d.ensures in
-    first_taken_lem c.args.at c.fewer.result is c.put_sent.ensures.0 c.put_sent.ensures.1 c.move_up.ensures
+    let is = c.saturating_sub.ensures ∙ ap (◌- 1) c.min.ensures ∙ ap (λ (d : Desk). min d.sent 12 - 1) c.desk-d.ensures in
+    first_taken_lem c.args.at c.saturating_sub.result is c.put_sent.ensures.0 c.put_sent.ensures.1 c.move_up.ensures

@@ -9,9 +9,9 @@ pub loop-i-preserved : goal.loop-i-preserved
 loop-i-preserved c =
     let figures = c.args.figures.now in
     let l = c.loop-i in
-    (omega arith, search rules, place_more (two_at figures) 2 0 l.i c.args.at l.numbers c.number_at.result (omega arith) l.invariant.2 (sym c.number_at.ensures))
+    (search rules, place_more (two_at figures) 2 0 l.i c.args.at l.numbers c.number_at.result (omega arith) l.invariant.1 (sym c.number_at.ensures))
 
 pub returns : goal.returns
 returns c =
     let l = c.loop-i in
-    all-places (two_at c.args.figures.now) 2 0 12 c.args.at l.numbers l.invariant.1 (λ k h. l.invariant.2 k (omega arith))
+    all-places (two_at c.args.figures.now) 2 0 12 c.args.at l.numbers l.invariant.0 (λ k h. l.invariant.1 k (omega arith))

@@ -2,11 +2,8 @@
 -- Assumes nothing.
 use Rattle.figures.proofs.Places.{Reads}
 use Rattle.figures.proofs.doubles.numbers_in.Given as goal
-use Rattle.std.proofs.Common.{length, ◌-◌, ◌≡◌, ◌≤◌}
+use Rattle.std.proofs.Common.{length, ◌≡◌}
 use Rattle.working.specs.Positions.{two_at}
 
 abbrev pub invariant-loop-i : goal.invariant-loop-i
-invariant-loop-i l = (l.i ≤ 12) × (length l.numbers ≡ 12) × Reads (two_at l.figures) 2 0 l.i l.at l.numbers
-
-abbrev pub decreases-loop-i : goal.decreases-loop-i
-decreases-loop-i l = 12 - l.i
+invariant-loop-i l = (length l.numbers ≡ 12) × Reads (two_at l.figures) 2 0 l.i l.at l.numbers

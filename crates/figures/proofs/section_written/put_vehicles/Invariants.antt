@@ -2,10 +2,7 @@
 -- Assumes nothing.
 use Rattle.figures.proofs.section_written.put_vehicles.Given as goal
 use Rattle.figures.specs.Written.{put_places}
-use Rattle.std.proofs.Common.{◌-◌, ◌≡◌, ◌≤◌}
+use Rattle.std.proofs.Common.{◌≡◌}
 
 abbrev pub invariant-loop-i : goal.invariant-loop-i
-invariant-loop-i l = (l.i ≤ 24) × (l.room ≡ put_places l.i l.places l.initial.room)
-
-abbrev pub decreases-loop-i : goal.decreases-loop-i
-decreases-loop-i l = 24 - l.i
+invariant-loop-i l = (l.room ≡ put_places l.i l.places l.initial.room)

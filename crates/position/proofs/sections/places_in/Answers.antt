@@ -11,13 +11,13 @@ use mathlib.Core.Path.{ap₂}
 
 pub loop-i-init : goal.loop-i-init
 unfolding places_bytes
-loop-i-init c = (refl, record { within = omega arith; so_far = refl })
+loop-i-init c = record { long = refl; so_far = refl }
 
 pub loop-i-preserved : goal.loop-i-preserved
 loop-i-preserved c =
     let vehicles = vehicles_of (section_in c.args.words.now) in
     let i = c.loop-i.i in
     let bytes = c.vehicle_bytes.ensures ∙ ap vehicle_bytes c.vehicle.ensures in
-    let next = c.put_bytes.ensures ∙ ap₂ (λ t v. pasted t (10 * i) v) c.loop-i.invariant.1.so_far bytes
+    let next = c.put_bytes.ensures ∙ ap₂ (λ t v. pasted t (10 * i) v) c.loop-i.invariant.so_far bytes
     ∙ put_next vehicles i (replicate 41 0) (omega arith) (omega arith) in
-    (search rules, record { within = omega arith; so_far = next })
+    record { long = search rules; so_far = next }

@@ -1,5 +1,6 @@
 -- Behind the places each figure is put at its own.
 -- Assumes nothing.
+use Rattle.position.proofs.HighFirst.{flag_byte}
 use Rattle.position.proofs.Places.{rest_put}
 use Rattle.position.proofs.sections.position_in.Goals as goal
 use Rattle.std.proofs.Common.{ap, arith, length, length-append, replicate, rules, set, ◌∙◌, ◌≡◌}
@@ -17,7 +18,7 @@ returns c =
     let bytes = places_bytes 24 (vehicles_of s) in
     let all : length c.places_in-p.result ≡ 281 = search rules in
     let long : length bytes ≡ 240 = omega (arith, length-append bytes (replicate 41 0), ap length c.places_in-p.ensures) in
-    let force = c.one_if.ensures ∙ ap one_if c.in_force.ensures in
+    let force = c.from.ensures ∙ flag_byte _ ∙ ap one_if c.in_force.ensures in
     let counts = c.counts_bytes.ensures ∙ ap counts_bytes c.refused.ensures in
     let a = c.desk_bytes.ensures ∙ ap desk_bytes c.desk.ensures in
     let b = c.desk_bytes-2.ensures ∙ ap desk_bytes c.desk-2.ensures in

@@ -1,14 +1,14 @@
--- A place that begins with a kind is passed, and one that begins with a zero ends the vehicles.
+-- A place that begins with a kind is passed, and the first that begins with a zero ends the vehicles; where none does, there are 24.
 -- Assumes nothing.
-use Rattle.position.proofs.Places.{passed_all, passed_end, passed_more}
+use Rattle.position.proofs.Places.{first_ended}
 use Rattle.position.proofs.sections.present_at.Goals as goal
-use Rattle.std.proofs.Common.{arith}
-
-pub returns-then-p-i-eq0 : goal.returns-then-p-i-eq0
-returns-then-p-i-eq0 c = (passed_end c.args.p.now c.loop-i.i c.if-p-i-eq0.true c.loop-i.invariant, omega arith)
-
-pub loop-i-preserved : goal.loop-i-preserved
-loop-i-preserved c = passed_more c.args.p.now c.loop-i.i (omega arith) c.if-p-i-eq0.false c.loop-i.invariant
+use Rattle.std.proofs.Common.{rules, tests, ◌*◌, ◌≡◌}
+use Rattle.std.proofs.lemmas.Iterator.{first_from_Range}
+use Rattle.working.specs.Positions.{byte_at}
 
 pub returns : goal.returns
-returns c = (passed_all c.args.p.now c.loop-i.i (omega arith) c.loop-i.invariant, omega arith)
+returns c =
+    let p = c.args.p.now in
+    let met = first_from_Range _ _ _ c.find.result (λ i. byte_at p (10 * i) ≡ 0) (λ i. byte_at p (10 * i) ≡ 0 → ⊥) c.find.ensures.ran
+    (λ x q k. search (rules, tests)) (λ x q k. search (rules, tests)) in
+    first_ended p c.find.result c.unwrap_or.result met c.unwrap_or.ensures

@@ -1,13 +1,21 @@
--- The pass ends at place 0, having tested all keys.
+-- Each key is tested as the definition tests it, the last first.
 -- Assumes nothing.
-use Rattle.section.proofs.Passes.{ends}
+use Rattle.section.proofs.Passes.{fold_back}
 use Rattle.section.proofs.made.lacks.Goals as goal
 use Rattle.section.specs.Made.{lacks}
-use Rattle.std.proofs.Common.{arith, length, rules, ◌≡◌}
-use lib.Seq.{take_all}
+use Rattle.std.proofs.Common.{Bool, refl, rules, true, ℕ, ◌∙◌}
+use Rattle.std.proofs.lemmas.Iterator.Adapters.{YieldsList-from_rev_slice}
+use Rattle.std.proofs.lemmas.Iterator.Consumers.{fold_from_yields_List}
+use borrow.Author.Tests.{tests}
+use lib.Dec.{eqb}
+use mathlib.Core.Bool.{not, ◌&&◌}
+
+abbrev so_far : ℕ → Bool → ℕ → Bool
+so_far key none m = not (eqb m key) && none
 
 pub returns : goal.returns
 returns c =
-    let keys = c.args.keys.now in
-    let long : length keys ≡ 24 = search rules in
-    rw (take_all 24 keys (omega arith)) at (ends (lacks c.args.key) keys 0 24 (omega arith) c.loop-i.invariant (omega arith))
+    let l = c.args.keys.now in
+    let key = c.args.key in
+    fold_from_yields_List _ (so_far key) true c.fold.result c.fold.ensures.ran (YieldsList-from_rev_slice l (cc)) (λ a x r q k. search (rules, tests))
+    ∙ fold_back (so_far key) (lacks key) (λ x l. refl) l

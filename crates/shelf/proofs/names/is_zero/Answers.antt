@@ -1,14 +1,13 @@
--- One more byte is compared with 0, and past the last nothing is left to compare.
+-- `all` compares each byte with 0, as the definition does.
 -- Assumes nothing.
-use Rattle.shelf.proofs.Titles.{zero_end, zero_next}
+use Rattle.shelf.proofs.Titles.{all_zero}
 use Rattle.shelf.proofs.names.is_zero.Goals as goal
-use Rattle.std.proofs.Common.{ap, arith, sym, ◌∙◌}
-use mathlib.Core.Bool.{and_assoc, ◌&&◌}
-
-pub loop-i-preserved : goal.loop-i-preserved
-loop-i-preserved c =
-    let zero = c.loop-i.zero in
-    (omega arith, c.loop-i.invariant.1 ∙ ap (zero &&◌) (zero_next c.args.bytes.now c.loop-i.i (omega arith)) ∙ sym (and_assoc zero _ _))
+use Rattle.std.proofs.Common.{rules, tests, ◌∙◌}
+use Rattle.std.proofs.lemmas.Iterator.Search.{all_from_yields_List}
+use Rattle.std.proofs.lemmas.Iterator.{YieldsList-from_slice}
+use lib.Dec.{eqb}
 
 pub returns : goal.returns
-returns c = sym (c.loop-i.invariant.1 ∙ zero_end c.args.bytes.now c.loop-i.i c.loop-i.zero (omega arith))
+returns c =
+    let bytes = c.args.bytes.now in
+    all_from_yields_List (λ b. eqb b 0) _ _ _ c.all.ensures.ran (YieldsList-from_slice bytes (cc)) (λ x b q k. search (rules, tests)) ∙ all_zero bytes

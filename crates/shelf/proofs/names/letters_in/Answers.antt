@@ -1,20 +1,18 @@
--- A byte that is a letter is one more, and one that is not ends the letters, as does the end of the bytes.
+-- The capital letters that stand first are as many as `take_while` gives.
 -- Assumes nothing.
-use Rattle.shelf.proofs.Titles.{letters_end, letters_next, letters_stop}
+use Rattle.shelf.proofs.Titles.{few_first, letters_first}
 use Rattle.shelf.proofs.names.letters_in.Goals as goal
-use Rattle.std.proofs.Common.{arith, sym}
-
-pub returns-then-not-is_letter : goal.returns-then-not-is_letter
-returns-then-not-is_letter c =
-    let stop = letters_stop c.args.bytes.now c.loop-i.i (omega arith) (sym c.if-not-is_letter.ensures) in
-    (omega arith, omega arith)
-
-pub loop-i-preserved : goal.loop-i-preserved
-loop-i-preserved c =
-    let next = letters_next c.args.bytes.now c.loop-i.i (omega arith) (sym c.if-not-is_letter.ensures) in
-    (omega arith, omega arith)
+use Rattle.std.proofs.Common.{rules, tests, ◌∙◌}
+use Rattle.std.proofs.lemmas.Iterator.Consumers.{count_from_yields_List}
+use Rattle.std.proofs.lemmas.Iterator.Search.{YieldsList-from_take_while}
+use Rattle.std.proofs.lemmas.Iterator.{YieldsList-from_slice}
+use Rattle.std.proofs.lemmas.List.Folds.{length-prefix_len}
+use Rattle.working.specs.Shelves.{is_letter}
 
 pub returns : goal.returns
 returns c =
-    let end = letters_end c.args.bytes.now c.loop-i.i (omega arith) in
-    (omega arith, omega arith)
+    let bytes = c.args.bytes.now in
+    let count = count_from_yields_List c.take_while.result _ c.count.ensures.ran
+    (YieldsList-from_take_while _ is_letter (YieldsList-from_slice bytes (cc)) c.take_while.ensures.closure c.take_while.ensures.done (λ x b q k. search (rules, tests)))
+    ∙ length-prefix_len is_letter bytes in
+    (count ∙ letters_first bytes, rw (count, letters_first) (few_first bytes))

@@ -1,22 +1,17 @@
--- The place at `i` is the name's, or the name's is behind it; past the last there is none.
+-- `position` looks for the name's place, or the first that begins with a zero, as the definition does.
 -- Assumes nothing.
-use Rattle.shelf.proofs.Walk.{place_next}
+use Rattle.shelf.proofs.Chunks.{found, has, length-parts, place_in_parts, place_most, places_yielded}
 use Rattle.shelf.proofs.places.place_for.Goals as goal
-use Rattle.std.proofs.Common.{arith, sym, ◌-◌, ◌∙◌, ◌≡◌}
+use Rattle.std.proofs.Common.{[], arith, rules, take, tests, ◌||◌, ◌∷◌}
+use Rattle.std.proofs.lemmas.Iterator.Search.{position_from_yields_List}
+use Rattle.std.specs.Cmp.Lexicographic.{pointwise}
 use Rattle.working.specs.Shelves.{place_for}
-
-pub returns-then-has_title-shelf : goal.returns-then-has_title-shelf
-returns-then-has_title-shelf c =
-    let here = rw (sym c.has_title.ensures, c.if-has_title-shelf.true) at (place_next c.args.shelf.now c.loop-i.i (omega arith) c.args.title.now) in
-    (omega arith, omega arith)
-
-pub loop-i-preserved : goal.loop-i-preserved
-loop-i-preserved c =
-    let next = rw (sym c.has_title.ensures, c.if-has_title-shelf.false) at (place_next c.args.shelf.now c.loop-i.i (omega arith) c.args.title.now) in
-    (omega arith, omega arith)
+use lib.Dec.{eqb}
 
 pub returns : goal.returns
-unfolding place_for
 returns c =
-    let none : 16 - c.loop-i.i ≡ 0 = omega arith in
-    (sym (c.loop-i.invariant.1 ∙ rw none (omega arith)), omega arith)
+    let shelf = c.args.shelf.now in
+    let title = c.args.title.now in
+    let at = position_from_yields_List (λ place. has title place || pointwise eqb (0 ∷ []) (take 1 place)) _ _ _ c.position.ensures.ran
+    (places_yielded _ shelf 16 c.chunks_exact.ensures.size c.chunks_exact.ensures.rest (omega arith)) (λ x b q k. search (rules, tests)) in
+    found _ (place_for title 16 shelf) (place_most title 16 shelf) (rw (length-parts 16 shelf, place_in_parts title (omega arith) 16 shelf (omega arith)) at at)

@@ -2,17 +2,13 @@
 -- Assumes nothing.
 use Rattle.shelf.proofs.Verdicts.{long-shelf, short_name}
 use Rattle.shelf.proofs.shelves.store.Goals as goal
-use Rattle.std.proofs.Common.{arith, rules, sym}
+use Rattle.std.proofs.Common.{arith, sym}
 use Rattle.working.proofs.theorems.Positions.{read_then_written}
 
 pub title_of-title-requires : goal.title_of-title-requires
 title_of-title-requires c = short_name _ (sym c.if-not-is_name.ensures)
 
-pub place_for-place-requires : goal.place_for-place-requires
-place_for-place-requires c = long-shelf _ (sym c.if-not-is_shelf.ensures)
-
 pub put_place-requires : goal.put_place-requires
 put_place-requires c =
-    let long = long-shelf _ (sym c.if-not-is_shelf.ensures) in
-    let full = (read_then_written _ (sym c.if-not-is_position.ensures)).0 in
-    (long, (omega arith, (search rules, full)))
+    let long = long-shelf _ c.in-Some.ensures.0 in
+    (omega arith, (read_then_written _ (sym c.if-not-is_position.ensures)).0)

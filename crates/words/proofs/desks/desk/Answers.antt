@@ -9,5 +9,5 @@ pub returns : goal.returns
 returns c =
     let w = c.args.words.now in
     let long : length w ≡ word_count = search rules in
-    rw (c.desk_in.ensures, c.desk_from-from.ensures.0)
-    (desk_first w (desk_from c.args.at) (omega (arith, desk-fits c.args.at)) ∙ sym (desk_at_lem w c.args.at))
+    rw (c.desk_in.ensures, c.desk_from.ensures.0)
+    (desk_first w (desk_from c.args.at) _ (omega (arith, desk-fits c.args.at)) (omega (arith, desk-fits c.args.at)) ∙ sym (desk_at_lem w c.args.at))

@@ -7,5 +7,5 @@ use Rattle.words.specs.Words.{with_out}
 
 pub returns : goal.returns
 returns c =
-    let word = c.word_if.ensures.0 in
+    let word = c.from.ensures in
     desk_becomes (with_out c.args.out) c.put.ensures (rw (word, one_back_lem c.args.out)) (λ d. rw word)

@@ -1,12 +1,9 @@
 -- `put` stores waiting in its word; it is below 256, so that it is read back as it was put.
 -- Assumes nothing.
-use Rattle.std.proofs.Common.{arith, refl, ◌%◌, ◌≡◌}
+use Rattle.std.proofs.Common.{arith, refl}
 use Rattle.words.proofs.DeskWords.{desk_becomes}
 use Rattle.words.proofs.desks.put_waiting.Goals as goal
 use Rattle.words.specs.Words.{with_waiting}
-use native.Mathlib.Nat.{mod-eq_of_lt}
 
 pub returns : goal.returns
-returns c =
-    let fits : c.args.waiting % 256 ≡ c.args.waiting = mod-eq_of_lt (omega arith) in
-    desk_becomes (with_waiting c.args.waiting) c.put.ensures (rw fits) (λ d. refl)
+returns c = desk_becomes (with_waiting c.args.waiting) c.put.ensures (grind arith) (λ d. refl)

@@ -1,6 +1,5 @@
 -- One more vehicle stands at its place. At the end all that are present stand there, and the places behind them are unused.
 -- Assumes nothing.
-use Rattle.section.proofs.Passes.{at_end}
 use Rattle.std.proofs.Common.{ap, arith, set, ◌∙◌}
 use Rattle.words.proofs.VehiclesIn.{places_of}
 use Rattle.words.proofs.kept.places_in.Goals as goal
@@ -12,16 +11,13 @@ use mathlib.Core.Path.{ap₂}
 
 pub loop-i-init : goal.loop-i-init
 unfolding pad_with
-loop-i-init c = record { within = omega arith; so_far = rw c.unused-places.ensures }
+loop-i-init c = rw c.unused-places.ensures
 
 pub loop-i-preserved : goal.loop-i-preserved
 loop-i-preserved c =
-    let vehicles = vehicles_of (section_in c.args.words.now) in
-    let next = ap₂ (λ t v. set t c.loop-i.i v) c.loop-i.invariant.so_far c.at_place.ensures ∙ place_next vehicles c.loop-i.i (omega arith) in
-    record { within = omega arith; so_far = next }
+    ap₂ (λ t v. set t c.loop-i.i v) c.loop-i.invariant c.at_place.ensures ∙ place_next (vehicles_of (section_in c.args.words.now)) c.loop-i.i (omega arith)
 
 pub returns : goal.returns
 returns c =
     let w = c.args.words.now in
-    let present = c.present_in-present.result in
-    at_end c.loop-i.invariant (omega arith) ∙ ap (pad_to 24) (take_all present (vehicles_of (section_in w)) (omega arith)) ∙ places_of w
+    c.loop-i.invariant ∙ ap (pad_to 24) (take_all c.loop-i.i (vehicles_of (section_in w)) (omega arith)) ∙ places_of w

@@ -5,4 +5,4 @@ use Rattle.words.proofs.Keeping.{own-emptied}
 use Rattle.words.proofs.ring.emptied_words.Goals as goal
 
 pub returns : goal.returns
-returns c = rw c.word_if.ensures.0 (own-emptied c.args.force c.args.counts (omega arith) (omega arith) (omega arith))
+returns c = rw c.from.ensures (own-emptied c.args.force c.args.counts (omega arith) (omega arith) (omega arith))

@@ -5,4 +5,4 @@ use Rattle.words.proofs.ring.insert.Goals as goal
 
 pub returns : goal.returns
 returns c =
-    insert_becomes c.args.at c.args.v c.args.words.now c.present_in-present.ensures.0 c.move_start-start.ensures c.end_slot.ensures c.put_vehicle.ensures
+    insert_becomes c.args.at c.args.v c.args.words.now c.present_in-present.ensures.0 c.move_start-start.ensures c.at_end.ensures c.at_end.result.in_ring c.put_vehicle.ensures

@@ -11,7 +11,7 @@ returns c =
     let a = c.args in
     let w = a.words.now in
     let long : length w ≡ word_count = search rules in
-    let there = c.slot_of-slot.ensures.0 ∙ ap (λ k. (k + a.i) % slots) c.start_in.ensures in
+    let there = c.on-slot.ensures ∙ ap (λ k. (k + a.i) % slots) c.start_in.ensures in
     let word = c.first_word.ensures ∙ ap first_word (c.met-v.ensures ∙ ap (redirected a.to) c.vehicle_at.ensures) in
     met_becomes a.to a.i w c.present_in-present.ensures.0 c.requires there long
-    (ap (set (set w 0 c.present_in-present.result) (ring_from + 2 * c.slot_of-slot.result)) word)
+    (ap (set (set w 0 c.present_in-present.result) (ring_from + 2 * c.on-slot.result.number)) word)

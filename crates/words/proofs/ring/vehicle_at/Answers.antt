@@ -9,5 +9,5 @@ use mathlib.Core.Path.{ap₂}
 pub returns : goal.returns
 returns c =
     let w = c.args.words.now in
-    let slot = c.args.slot in
+    let slot = c.args.slot.number in
     c.vehicle_in.ensures ∙ sym (ap₂ vehicle_in (get_or-drop ring_from w (2 * slot) 0) (get_or-drop ring_from w (2 * slot + 1) 0))

@@ -9,7 +9,7 @@ mod vehicles;
 pub use desks::{
     COUNTS, DESK, counts_bytes, counts_in, desk_bytes, desk_in, interval_bytes, interval_of,
 };
-pub use numbers::{in_two, one_if, same_bytes, two};
+pub use numbers::two;
 pub use sections::{
     DESK_A, DESK_B, FORCE, POSITION, Position, REFUSED, is_position, position_in, read, vehicles_at,
 };

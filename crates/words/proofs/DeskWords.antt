@@ -110,6 +110,11 @@ put_next {w} {u} {after} {x} {p} {q} one two = record {
   behind = two.behind ∙ one.behind;
 }
 
+-- the same by another name for what is put
+pub put_as : {w after : List ℕ} {x : Station} {p : List ℕ → List ℕ} (q : List ℕ → List ℕ) → DeskPut w after x p
+    → p (desk_words_in w x) ≡ q (desk_words_in w x) → DeskPut w after x q
+put_as q one e = record { long = one.long; same = one.same; desk = one.desk ∙ e; ahead = one.ahead; behind = one.behind }
+
 -- all of them at once, where a desk's words begin
 pub put-all : {x : Station} (w f : List ℕ) (a k : ℕ) → length w ≡ word_count → length f ≡ desk_length → a ≡ desk_from x → k ≡ desk_length → DeskPut w (put_mid a k w f) x (λ t. f)
 put-all {x} w f a k long all at size =

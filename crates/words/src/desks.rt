@@ -195,12 +195,14 @@ pub fn put_waiting(words: &mut Words, at: Station, waiting: u8)
     put(words, at, WAITING, waiting as u64);
 }
 
-// The whole desk.
+// The whole desk, a word at a time: where the words are copied as a slice, the compiler keeps all of a section's words apart and copies those too (measured).
 pub fn put_desk(words: &mut Words, at: Station, d: Desk)
     ensures { DeskBecomes words.old words.new at (λ _. d) × RingKept words.old words.new }
 {
-    let from = desk_from(at);
-    words[from..from + Desk::FIGURES].copy_from_slice(&d.figures());
+    let figures = d.figures();
+    for i in 0..Desk::FIGURES {
+        put(words, at, i, figures[i]);
+    }
 }
 
 // The place of the count that a refusal belongs to.

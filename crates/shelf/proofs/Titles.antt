@@ -1,23 +1,27 @@
 -- Names and titles, byte by byte: zeros, letters that stand first, and a name at the front of zeros.
 -- Assumes nothing.
 use Prim.Native.Nat.{suc, zero, ℕ, ◌+◌, ◌-◌, ◌≤◌}
-use Rattle.std.specs.List.{list_all, prefix_len}
+use Rattle.std.specs.List.{fold, prefix_len}
 use Rattle.working.specs.Sections.{pad_with}
 use Rattle.working.specs.Shelves.{is_letter, is_zero, letters_in}
 use lib.Dec.{eqb}
 use lib.ListN.{drop, length, length-drop, replicate, take}
 use lib.Seq.{take_all}
-use mathlib.Core.Bool.{Bool, cond, false, true, ◌&&◌}
+use mathlib.Core.Bool.{Bool, and-true, and_assoc, cond, false, true, ◌&&◌}
 use mathlib.Core.List.{List, [], ◌++◌, ◌∷◌}
-use mathlib.Core.Path.{ap, refl, ◌∙◌, ◌≡◌}
+use mathlib.Core.Path.{ap, refl, sym, ◌∙◌, ◌≡◌}
 use native.Mathlib.Omega.{arith}
 
 -- ---- zeros and letters
 
-pub all_zero : (l : List ℕ) → list_all (λ b. eqb b 0) l ≡ is_zero l
+-- the bytes so far are zero, and so is this one
+abbrev pub zero_with : Bool → ℕ → Bool
+zero_with before b = before && eqb b 0
+
+pub zero_so_far : (before : Bool) (l : List ℕ) → fold zero_with before l ≡ (before && is_zero l)
 unfolding is_zero
-all_zero [] = refl
-all_zero (b ∷ l) = ap (λ t. eqb b 0 && t) (all_zero l)
+zero_so_far before [] = sym (and-true before)
+zero_so_far before (b ∷ l) = zero_so_far (before && eqb b 0) l ∙ and_assoc before (eqb b 0) (is_zero l)
 
 pub letters_first : (l : List ℕ) → prefix_len is_letter l ≡ letters_in l
 unfolding letters_in

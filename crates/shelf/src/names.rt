@@ -18,11 +18,11 @@ fn letters_in(bytes: &[u8]) -> usize
         .count()
 }
 
-// Whether all bytes are zero.
+// Whether all bytes are zero. All are looked at, many at once: `all`, which leaves at the first that is not, looks at them one by one (measured).
 pub(crate) fn is_zero(bytes: &[u8]) -> bool
     ensures { result ≡ is_zero bytes.now }
 {
-    bytes.iter().all(|byte| *byte == 0)
+    bytes.iter().fold(true, |zero, byte| zero & (*byte == 0))
 }
 
 #[tactic(auto, unfolding(working::specs::Shelves::is_name))]

@@ -1,8 +1,9 @@
 -- What a read comes to, and what follows it.
 use Rattle.input.specs.declared.reading.Onward.{Onward}
 use Rattle.listing.specs.LineText.{longest_log}
+use Rattle.std.specs.Io.KnownBytes.{Consumes, IsAtEnd, Keeps}
 use Rattle.std.specs.IoError.{error_kind}
-use Rattle.std.specs.Prelude.{Bool, Err, IfOk, None, Ok, Option, Result, Some, cond, eqb, false, true, ℕ, ◌+◌, ◌-◌, ◌<◌, ◌≤◌}
+use Rattle.std.specs.Prelude.{Bool, Err, IfOk, List, None, Ok, Option, Result, Some, cond, eqb, false, length, take, true, ℕ, ◌+◌, ◌-◌, ◌<◌, ◌≤◌}
 use Rattle.std.specs.declared.io.Error.{Error}
 use Rattle.std.specs.declared.io.ErrorKind.TheVariants.{Interrupted}
 use Rattle.std.specs.declared.io.ErrorKind.{ErrorKind}
@@ -31,3 +32,16 @@ GoesOn room patience (Err why) = Unit {0}
 -- a log has no more bytes than there is room for
 abbrev pub FitsRoom : Result ℕ Error → ℕ → Type 0
 FitsRoom read room = IfOk read (λ len. len ≤ room)
+
+-- Behind a read into a room, by what the reader has left before and behind it, where that is known: where reading goes on, the bytes counted are those that came next, and lie
+-- at the front of the room; where it has ended, no more are to come; and behind an error none is lost.
+abbrev pub Came : Option (List ℕ) → Option (List ℕ) → Result (Option Onward) Error → List ℕ → Type 0
+Came old new (Ok (Some on)) room = Consumes old new (take on.count room)
+Came old new (Ok None) room = Keeps old new × IsAtEnd new
+Came old new (Err why) room = Keeps old new
+
+-- A room is filled, by what the reader has left before and behind it, where that is known: the front of the room is the bytes that came next, so many as is answered, and the
+-- room is not full only where no more are to come. Behind an error it is not full, and its front is the bytes that came before.
+abbrev pub Fills : Option (List ℕ) → Option (List ℕ) → Result ℕ Error → List ℕ → Type 0
+Fills old new (Ok count) room = (count ≤ length room) × Consumes old new (take count room) × (count < length room → IsAtEnd new)
+Fills old new (Err why) room = (count : ℕ) × (count < length room) × Consumes old new (take count room)

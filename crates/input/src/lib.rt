@@ -1,9 +1,8 @@
-// What the programs that read standard input share: a room filled from a reader, what follows each read, and of the listers all that they do but for the line's table.
+// What the programs that read standard input share: a room filled from a reader, what follows each read, and a lister's memory with the reading of a log into it.
 #![tactic(auto)]
 
 mod lister;
 mod reading;
-mod writing;
 
 pub use lister::Rooms;
 pub use reading::{Onward, PATIENCE, behind, fill};

@@ -1,15 +1,13 @@
-// What a lister does, of either line.
-ghost use Rattle.input.specs.Reading.{most_read};
+// The memory of a lister, of either line, and the reading of a log into it.
+ghost use Rattle.input.specs.Reading.{Fills, FitsRoom, most_read};
 ghost use Rattle.listing.specs.LineText.{longest_line};
 ghost use Rattle.std.specs.Prelude.{length, ◌≡◌, ◌≤◌};
 
-use crate::reading::read_log;
-use crate::writing::{say, write_listing};
+use crate::reading::{PATIENCE, fill_patiently};
 use std::io;
-use std::io::{Eprint, Print, Read};
-use step::Line;
+use std::io::Read;
 
-// The memory of a lister: room for the longest log and a byte more, which tells a longer one, and a block of its listing.
+// Room for the longest log and a byte more, which tells a longer one, and a block of its listing.
 #[derive(Drop)]
 pub struct Rooms<const LOG: usize, const BLOCK: usize> {
     pub log: [u8; LOG],
@@ -19,20 +17,12 @@ pub struct Rooms<const LOG: usize, const BLOCK: usize> {
 }
 
 impl<const LOG: usize, const BLOCK: usize> Rooms<LOG, BLOCK> {
-    // Lists a log on standard output. After a failed read nothing is listed, and after a failed write nothing more; either is said on standard error.
-    pub fn list<S: Line>(
-        &mut self,
-        out: &(impl Print + Eprint),
-        source: &mut impl Read,
-        program: &str,
-    ) -> io::Result<()> {
-        let len = match read_log(source, &mut self.log) {
-            Ok(len) => len,
-            Err(why) => return say(out, program, "reading standard input", why),
-        };
-        if let Err(why) = write_listing::<S>(out, &self.log[..len], &mut self.block) {
-            return say(out, program, "writing standard output", why);
-        }
-        Ok(())
+    // Reads a log to the end of the input, or until the room is full, which takes the longest log and a byte more; how many bytes came.
+    pub fn read_log<R: Read>(&mut self, source: &mut R) -> io::Result<usize>
+        ensures fits { FitsRoom result most_read }
+        ensures fills { Fills (R.remaining source.old) (R.remaining source.new) result self.new.log }
+        ensures block { self.new.block ≡ self.old.block }
+    {
+        fill_patiently(source, &mut self.log, PATIENCE)
     }
 }

@@ -1,5 +1,5 @@
 // A room filled from a reader. What follows each read is decided by `behind`.
-ghost use Rattle.input.specs.Reading.{FitsRoom, GoesOn, behind_read, most_read};
+ghost use Rattle.input.specs.Reading.{Came, Fills, GoesOn, behind_read};
 ghost use Rattle.std.specs.Io.{ReadsAtMost};
 ghost use Rattle.std.specs.Prelude.{length, ◌<◌, ◌≡◌};
 
@@ -33,18 +33,28 @@ pub fn behind(patience: usize, one: io::Result<usize>) -> io::Result<Option<Onwa
 }
 
 // One read into the room left, and what follows it.
-#[tactic(auto, using(crate::proofs::Following::follows))]
-fn read_some(source: &mut impl Read, rest: &mut [u8], patience: usize) -> io::Result<Option<Onward>>
+#[tactic(auto, using(crate::proofs::Following::follows, crate::proofs::Following::came))]
+fn read_some<R: Read>(
+    source: &mut R,
+    rest: &mut [u8],
+    patience: usize,
+) -> io::Result<Option<Onward>>
     requires { 0 < length rest.old }
-    ensures { GoesOn (length rest.old) patience result }
+    ensures on { GoesOn (length rest.old) patience result }
+    ensures came { Came (R.remaining source.old) (R.remaining source.new) result rest.new }
 {
     behind(patience, source.read(rest))
 }
 
 // Reads to the end of the input, or until the room is full; how many bytes came. So many interrupted reads are tried again: std's `read_exact` tries each again, and
 // does not say how many bytes came before the end.
-fn fill_patiently(source: &mut impl Read, room: &mut [u8], patience: usize) -> io::Result<usize>
-    ensures { ReadsAtMost result room.new }
+pub(crate) fn fill_patiently<R: Read>(
+    source: &mut R,
+    room: &mut [u8],
+    patience: usize,
+) -> io::Result<usize>
+    ensures bound { ReadsAtMost result room.new }
+    ensures fills { Fills (R.remaining source.old) (R.remaining source.new) result room.new }
 {
     let mut done = 0usize;
     let mut left = patience;
@@ -58,17 +68,10 @@ fn fill_patiently(source: &mut impl Read, room: &mut [u8], patience: usize) -> i
     Ok(done)
 }
 
-// Fills the room from the input, as far as that reaches; how many bytes came. A read that fails ends it, and so does one that is interrupted.
-pub fn fill(source: &mut impl Read, room: &mut [u8]) -> io::Result<usize>
-    ensures { ReadsAtMost result room.new }
+// Fills the room from the input, as far as that reaches; how many bytes came. A read that fails ends it, and so does one that is interrupted: std does not say which reads do.
+pub fn fill<R: Read>(source: &mut R, room: &mut [u8]) -> io::Result<usize>
+    ensures bound { ReadsAtMost result room.new }
+    ensures fills { Fills (R.remaining source.old) (R.remaining source.new) result room.new }
 {
     fill_patiently(source, room, 0)
-}
-
-// Reads a log to the end of the input, or until the room is full, which takes the longest log and a byte more.
-pub(crate) fn read_log(source: &mut impl Read, room: &mut [u8]) -> io::Result<usize>
-    requires { length room.old ≡ most_read }
-    ensures { FitsRoom result most_read }
-{
-    fill_patiently(source, room, PATIENCE)
 }

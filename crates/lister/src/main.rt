@@ -2,19 +2,27 @@
 // and after a failed write nothing more. A contract cannot say what is read or written, so what is here is thin; scripts/try-lister runs it.
 #![tactic(auto)]
 
+mod writing;
+
 use input::Rooms;
 use std::env::{Env, FillError};
 use std::io;
-use working::Section;
+use writing::{say, write_listing};
 
 fn main(rt: HostRuntime) -> io::Result<()> {
-    // Asked here and not in `input`: over a bound `Env` a lister would rest on four more functions of C.
     let Err(FillError::NotPresent) = rt.arg(1, &mut []) else {
         return eprintln!(rt; "usage: lister <LOG");
     };
-    let mut rooms = Rooms {
+    let rooms = &mut Rooms {
         log: [0u8; 65537],
         block: [0u8; 16384],
     };
-    rooms.list::<Section>(&rt, &mut rt.stdin(), "lister")
+    let len = match rooms.read_log(&mut rt.stdin()) {
+        Ok(len) => len,
+        Err(why) => return say(&rt, "reading standard input", why),
+    };
+    if let Err(why) = write_listing(&rt, &rooms.log[..len], &mut rooms.block) {
+        return say(&rt, "writing standard output", why);
+    }
+    Ok(())
 }

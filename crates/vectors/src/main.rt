@@ -3,7 +3,8 @@
 // This is a test, held to what it writes. A read or a write that fails ends it.
 #![tactic(auto)]
 
-ghost use Rattle.std.specs.Prelude.{length, ◌≤◌};
+ghost use Rattle.std.specs.Prelude.{length, min, ◌≡◌, ◌≤◌};
+ghost use Rattle.working.specs.Entries.{value_of};
 
 use input::fill;
 use std::io;
@@ -18,6 +19,13 @@ const ROOM: usize = 65537;
 struct Packed<'a> {
     table: Table,
     log: &'a [u8],
+}
+
+// The length that four bytes say, high byte first, and no more than there is room for.
+fn packed_length(head: [u8; 4]) -> usize
+    ensures { result ≡ min (value_of head) 65537 }
+{
+    (u32::from_be_bytes(head) as usize).min(ROOM)
 }
 
 // The next log, read into the room lent, no more of it than there is room for; none at the end of the input.
@@ -35,8 +43,7 @@ fn read_packed<'a>(
         2 => Table::DoubleLine,
         _ => Table::SingleLine,
     };
-    let length = (u32::from_be_bytes(head) as usize).min(ROOM);
-    let count = fill(input, &mut room[..length])?;
+    let count = fill(input, &mut room[..packed_length(head)])?;
     Ok(Some(Packed {
         table,
         log: &room[..count],

@@ -1,18 +1,20 @@
-// What the listers write: a listing in blocks on standard output, and what failed on standard error.
+// What the lister writes: a listing in blocks on standard output, and what failed on standard error. No contract can say what std's `Print` takes, and every public function of
+// a library promises what it does: so this is no library's, and stands in both listers.
 ghost use Rattle.listing.specs.LineText.{longest_line};
 ghost use Rattle.std.specs.Prelude.{length, ◌≤◌};
 
 use std::io;
 use std::io::{Eprint, Error, ErrorKind, Print, Write};
 use std::str::from_utf8;
-use step::{Line, start_of};
+use step::start_of;
 use words::fresh_words;
+use working::Section;
 
 // Room for an error's text: std gives its words in 256 bytes at most, and a number behind them.
 const ROOM: usize = 512;
 
 // Writes all of a block. A write that fails, as where a signal comes first, or that takes nothing ends it: std's `write_all` tries an interrupted write again.
-pub(crate) fn write_whole(out: &impl Print, block: &[u8]) -> io::Result<()> {
+fn write_whole(out: &impl Print, block: &[u8]) -> io::Result<()> {
     let mut rest = block;
     while !rest.is_empty() {
         let count = out.write_some(rest)?;
@@ -25,17 +27,13 @@ pub(crate) fn write_whole(out: &impl Print, block: &[u8]) -> io::Result<()> {
 }
 
 // Writes the listing of a log, a block at a time; how many there are comes of what each takes.
-pub(crate) fn write_listing<S: Line>(
-    out: &impl Print,
-    log: &[u8],
-    block: &mut [u8],
-) -> io::Result<()>
+pub(crate) fn write_listing(out: &impl Print, log: &[u8], block: &mut [u8]) -> io::Result<()>
     requires { longest_line ≤ length block.old }
 {
     let mut words = fresh_words();
     let mut listed = start_of(log.len());
     while !listed.ended {
-        let put = step::fill::<S>(&mut words, listed, log, block);
+        let put = step::fill::<Section>(&mut words, listed, log, block);
         let count = put.behind;
         write_whole(out, &block[..count])?;
         listed = put.listed;
@@ -51,12 +49,12 @@ fn words_of(text: &str) -> &str {
     }
 }
 
-// Says what failed in a program, and why.
-pub(crate) fn say(out: &impl Eprint, program: &str, what: &str, why: Error) -> io::Result<()> {
+// Says what failed, and why.
+pub(crate) fn say(out: &impl Eprint, what: &str, why: Error) -> io::Result<()> {
     let mut room = [0u8; ROOM];
     let mut rest = room.as_mut_slice();
     write!(rest, "{why}")?;
     let count = ROOM.saturating_sub(rest.len());
     let words = words_of(from_utf8(&room[..count]).unwrap_or_default());
-    eprintln!(out; "{program}: {what}: {words}")
+    eprintln!(out; "lister: {what}: {words}")
 }

@@ -1,6 +1,6 @@
 // The lines that several cases write.
 use crate::sections::{digest, places_used};
-use crate::text::{Hex, Said};
+use crate::text::{Hex, Said, front};
 use figures::{PRESENT, case_bytes};
 use std::io;
 use working::{Answer, Read, Section};
@@ -32,6 +32,6 @@ pub(crate) fn write_section(out: &impl Print, word: &str, s: Section) -> io::Res
     println!(out;
         "{word} {}{}",
         Hex(&figures[PRESENT..]),
-        Hex(&figures[..used])
+        Hex(front(&figures, used))
     )
 }

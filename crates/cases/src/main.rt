@@ -14,6 +14,7 @@ use written::run_write;
 mod case;
 mod lines;
 mod logs;
+mod memory;
 mod reading;
 mod sections;
 mod steps;

@@ -1,10 +1,11 @@
 // A case of bytes handed to the step in both forms, and run as a log, on a section given in figures.
 use crate::lines::write_section;
+use crate::memory::step_via;
 use crate::sections::digest;
 use crate::text::Said;
 use figures::case_bytes;
 use std::io;
-use step::{Ran, run, step, step_in_place};
+use step::{Ran, run, step};
 use working::{Answer, Section};
 
 // An answer, and the section after it.
@@ -29,8 +30,7 @@ pub(crate) fn run_step(out: &impl Print, s: Section, bytes: &[u8]) -> io::Result
     println!(out; "step {}", bytes.len())?;
     let after = step(s, bytes);
     write_step(out, "value", after.answer, after.section)?;
-    let mut owned = s;
-    let answer = step_in_place(&mut owned, bytes);
-    write_step(out, "memory", answer, owned)?;
+    let left = step_via(s, bytes);
+    write_step(out, "memory", left.answer, left.section)?;
     write_ran(out, run(s, bytes, bytes.len()))
 }

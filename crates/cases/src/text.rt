@@ -1,4 +1,6 @@
 // How the lines say an answer, what was read, what the writer answered, and bytes (docs/CASES.md).
+ghost use Rattle.std.specs.Prelude.{take, ◌≡◌};
+
 use std::fmt;
 use std::fmt::{Display, Formatter};
 use working::{Accepted, Answer, Read, Refusal, Speed};
@@ -71,6 +73,13 @@ impl Display for Said<Result<usize, Refusal>> {
             Err(why) => write!(f, "no {}", why.number()),
         }
     }
+}
+
+// The first so many bytes, or all where there are fewer.
+pub(crate) fn front(bytes: &[u8], count: usize) -> &[u8]
+    ensures { result.now ≡ take count bytes.now }
+{
+    &bytes[..count.min(bytes.len())]
 }
 
 // Bytes in hex, two digits each.

@@ -5,11 +5,13 @@
 use double::Section;
 use figures::{DOUBLE_LENGTH, LONGEST_HEAD, double_in, number_at};
 use input::fill;
+use memory::double_step_via;
 use std::io;
 use std::io::Read;
-use step::{run, step, step_in_place};
+use step::{run, step};
 use stepped::{write_ran, write_stepped};
 
+mod memory;
 mod stepped;
 
 // A case's head: a section's figures, and the length of the bytes behind them. It lies at the front of the longer head that `figures` reads.
@@ -48,9 +50,8 @@ fn read_case<'a>(
 fn run_case(out: &impl Print, case: Case<'_>) -> io::Result<()> {
     let after = step(case.section, case.bytes);
     write_stepped(out, after.answer, after.section)?;
-    let mut left = case.section;
-    let answer = step_in_place(&mut left, case.bytes);
-    write_stepped(out, answer, left)?;
+    let left = double_step_via(case.section, case.bytes);
+    write_stepped(out, left.answer, left.section)?;
     write_ran(out, run(case.section, case.bytes, 1))
 }
 

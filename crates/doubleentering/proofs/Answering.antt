@@ -1,4 +1,4 @@
--- What an entry is answered, and the section that the words then stand for: by what its tests come to it is refused, which leaves the section, or has its effect; and what
+-- What an entry is answered, and the section that the words then stand for: by what its tests come to it is refused, which leaves the words, or has its effect; and what
 -- is refused is counted.
 -- Assumes nothing.
 use Prim.Native.Nat.{ℕ, ◌+◌}
@@ -7,10 +7,10 @@ use Rattle.double.specs.Steps.{Begin, Depart, Event, Receive, Resume, accepted, 
 use Rattle.double.specs.declared.Section as double
 use Rattle.double.specs.declared.Side.{Side}
 use Rattle.doubleentering.proofs.Sides.{clock_put, counts_are, force_is, made_anew, refusal_counted, side_is}
-use Rattle.doubleentering.specs.DoubleWords.{Enters, Puts, SideBecomes, Tries, double_in, places_in, side_by}
+use Rattle.doubleentering.specs.DoubleWords.{Comes, Enters, Puts, SideBecomes, Tries, double_in, is_declared, places_in, side_by}
 use Rattle.entering.proofs.Becoming.{Looked, station_by}
-use Rattle.entering.specs.Entering.{Refuses}
-use Rattle.std.specs.Prelude.{Err, Ok, Option, Some, is_ok}
+use Rattle.entering.specs.Entering.{Declares, Refuses}
+use Rattle.std.specs.Prelude.{Err, None, Ok, Option, Some, is_ok}
 use Rattle.words.specs.Words as words
 use Rattle.words.specs.Words.{DeskBecomes, OwnWords, RingKept, ring_in, section_in}
 use Rattle.working.proofs.laws.Reasons.{LastPasses, last_passes}
@@ -20,7 +20,6 @@ use Rattle.working.specs.Answers.{Answer, accept}
 use Rattle.working.specs.Events.{Says, station_of}
 use Rattle.working.specs.Reasons.{last_tests, station_tests}
 use Rattle.working.specs.Refusals.{Test, Verdict, first_of}
-use Rattle.working.specs.Sections as single
 use Rattle.working.specs.Sections.{other_at}
 use Rattle.working.specs.declared.Accepted.{Accepted}
 use Rattle.working.specs.declared.Desk.{Desk}
@@ -44,12 +43,16 @@ effect_puts w u (Receive x time sender form) is = is
 effect_puts w u Resume is = is
 
 module _ {w u : List ℕ} {given : Answer} (event : Event) where
+  enters_by : (v : Verdict) → first_of (tests_of (double_in w) event) ≡ v → let t = settled (double_in w) (Says event) v (effect_of (double_in w) event) in
+      given ≡ t.answer → double_in u ≡ t.section → Enters w event given u
+  enters_by v is answer section = record { answer = rw is answer; section = rw is section }
+
   tries_by : (v : Verdict) → first_of (tests_of (double_in w) event) ≡ v → let t = settled (double_in w) (Says event) v (effect_of (double_in w) event) in
       given ≡ t.answer → Puts t.answer w t.section u → Tries w event given u
-  tries_by v is answer section = record { answer = rw is answer; section = rw is section }
+  tries_by v is answer words = record { answer = rw is answer; words = rw is words }
 
-  -- a refusal leaves the section as it was
-  pub refused : {why : Refusal} → first_of (tests_of (double_in w) event) ≡ Err why → given ≡ Err why → double_in u ≡ double_in w → Tries w event given u
+  -- a refusal leaves the words as they were
+  refused : {why : Refusal} → first_of (tests_of (double_in w) event) ≡ Err why → given ≡ Err why → u ≡ w → Tries w event given u
   refused {why} is answer kept = tries_by (Err why) is answer kept
 
   done : first_of (tests_of (double_in w) event) ≡ Ok tt → given ≡ (effect_of (double_in w) event).answer → double_in u ≡ (effect_of (double_in w) event).section
@@ -57,9 +60,12 @@ module _ {w u : List ℕ} {given : Answer} (event : Event) where
   done is answer section = tries_by (Ok tt) is answer (effect_puts w u event section)
 
   -- BEGIN and RESUME
-  pub declared : (force : Bool) → first_of (tests_of (double_in w) event) ≡ Ok tt → effect_of (double_in w) event ≡ accepted (emptied force (double_in w).refused)
-      → given ≡ accept 0 0 NoSpeed → OwnWords u (single.emptied force (section_in w).refused) → Tries w event given u
-  declared force is anew answer own = done is (rw anew answer) (rw anew (made_anew own ∙ ap (emptied force) (sym (counts_are w))))
+  pub declared : (force : Bool) (v : Verdict) → first_of (tests_of (double_in w) event) ≡ v → whose_is (Says event) ≡ None
+      → effect_of (double_in w) event ≡ accepted (emptied force (double_in w).refused) → Declares w v force given u → Enters w event given u
+  declared force (Err why) is none anew refuses =
+      enters_by (Err why) is refuses.answer (refusal_counted refuses ∙ ap (λ (z : Option Station). count_refusal z (double_in w)) (sym none))
+  declared force (Ok _) is none anew (answer, own) =
+      enters_by (Ok _) is (rw anew answer) (rw anew (made_anew own ∙ ap (emptied force) (sym (counts_are w))))
 
 -- ---- a station's entry, by what the code looks at first: the station, its desk, whether the working is in force, and what 7 and 9 come to
 
@@ -175,13 +181,32 @@ module _ {w w₁ : List ℕ} {event : Event} {tried : Answer} (tries : Tries w e
   counted is whose_is refuses =
       let s = double_in w in
       let t = on_decoded s (Says event) in
-      let kept : double_in w₁ ≡ s = subst (λ (g : Answer). Puts g w t.section w₁) (sym tries.answer ∙ is) tries.section in
+      let kept : w₁ ≡ w = subst (λ (g : Answer). Puts g w t.section w₁) (sym tries.answer ∙ is) tries.words in
       record {
         answer = refuses.answer ∙ sym is ∙ tries.answer;
-        section = refusal_counted refuses ∙ ap₂ count_refusal whose_is kept ∙ sym (spared s event (first_of (tests_of s event)) (sym tries.answer ∙ is));
+        section = refusal_counted refuses ∙ ap₂ count_refusal whose_is (ap double_in kept) ∙ sym (spared s event (first_of (tests_of s event)) (sym tries.answer ∙ is));
       }
 
   pub not_counted : {order : Accepted} → tried ≡ Ok order → Enters w event tried w₁
   not_counted is =
       let t = on_decoded (double_in w) (Says event) in
-      record { answer = tries.answer; section = subst (λ (g : Answer). Puts g w t.section w₁) (sym tries.answer ∙ is) tries.section }
+      record { answer = tries.answer; section = subst (λ (g : Answer). Puts g w t.section w₁) (sym tries.answer ∙ is) tries.words }
+
+-- by what an entry came to: what was accepted, what was counted with it, and what is still to be counted
+pub not_refused : {w w₁ : List ℕ} (event : Event) {tried : Answer} {order : Accepted} → Comes w event tried w₁ → tried ≡ Ok order → Enters w event tried w₁
+not_refused Begin comes is = comes
+not_refused (Depart x time) comes is = not_counted comes is
+not_refused (Receive x time sender form) comes is = not_counted comes is
+not_refused Resume comes is = comes
+
+pub has_counted : {w w₁ : List ℕ} (event : Event) {tried given : Answer} → Comes w event tried w₁ → is_declared event ≡ true → tried ≡ given → Enters w event given w₁
+has_counted {w} {w₁} Begin comes is same = subst (λ (g : Answer). Enters w Begin g w₁) same comes
+has_counted (Depart x time) comes is same = absurd (true≢false (sym is))
+has_counted (Receive x time sender form) comes is same = absurd (true≢false (sym is))
+has_counted {w} {w₁} Resume comes is same = subst (λ (g : Answer). Enters w Resume g w₁) same comes
+
+pub to_count : {w w₁ : List ℕ} (event : Event) {tried : Answer} → Comes w event tried w₁ → is_declared event ≡ false → Tries w event tried w₁
+to_count Begin comes is = absurd (true≢false is)
+to_count (Depart x time) comes is = comes
+to_count (Receive x time sender form) comes is = comes
+to_count Resume comes is = absurd (true≢false is)

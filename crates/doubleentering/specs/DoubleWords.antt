@@ -7,10 +7,10 @@
 --
 -- All other words are passed by.
 use Rattle.double.specs.Sections.{line_of, side_of, with_side}
-use Rattle.double.specs.Steps.{Decoded, Event, on_decoded}
+use Rattle.double.specs.Steps.{Begin, Decoded, Depart, Event, Receive, Resume, on_decoded}
 use Rattle.double.specs.declared.Section.{Section}
 use Rattle.double.specs.declared.Side.{Side}
-use Rattle.std.specs.Prelude.{Err, List, Ok, drop, eqb, get_or, length, map, take, ℕ, ◌%◌, ◌++◌, ◌≡◌}
+use Rattle.std.specs.Prelude.{Bool, Err, List, Ok, drop, eqb, false, get_or, length, map, take, true, ℕ, ◌%◌, ◌++◌, ◌≡◌}
 use Rattle.words.specs.Words.{counts_in, desk_in, ring_from, ring_in, word_count}
 use Rattle.working.specs.Answers.{Answer}
 use Rattle.working.specs.Events.{Says}
@@ -68,15 +68,15 @@ moved_up l = take 11 (drop 1 l) ++ drop 11 l
 abbrev pub SideBecomes : List ℕ → List ℕ → Station → (Side → Side) → Type 0
 SideBecomes before after x f = double_in after ≡ with_side (double_in before) x (f (side_of (double_in before) x))
 
--- the section that the words stand for before a refusal is counted: by the answer the section as it was, or the one after it
+-- what the words are before a refusal is counted: by the answer as they were, or words that stand for the section after it
 abbrev pub Puts : Answer → List ℕ → Section → List ℕ → Type 0
-Puts (Err why) before s after = double_in after ≡ double_in before
+Puts (Err why) before s after = after ≡ before
 Puts (Ok order) before s after = double_in after ≡ s
 
 -- an entry that is taken, before a refusal is counted
 pub record Tries (before : List ℕ) (event : Event) (given : Answer) (after : List ℕ) : Type 0 where
   pub answer : given ≡ (on_decoded (double_in before) (Says event)).answer
-  pub section : let t = on_decoded (double_in before) (Says event) in Puts t.answer before t.section after
+  pub words : let t = on_decoded (double_in before) (Says event) in Puts t.answer before t.section after
 
 -- the answer to an entry, and to what was read at some place, with the section after it
 pub record Answers (before : List ℕ) (decoded : Decoded) (given : Answer) (after : List ℕ) : Type 0 where
@@ -85,3 +85,17 @@ pub record Answers (before : List ℕ) (decoded : Decoded) (given : Answer) (aft
 
 abbrev pub Enters : List ℕ → Event → Answer → List ℕ → Type 0
 Enters before event given after = Answers before (Says event) given after
+
+-- which events declare, and have their refusal counted with it
+abbrev pub is_declared : Event → Bool
+is_declared Begin = true
+is_declared (Depart x time) = false
+is_declared (Receive x time sender form) = false
+is_declared Resume = true
+
+-- an entry that is taken, where BEGIN and RESUME have counted what they refuse
+abbrev pub Comes : List ℕ → Event → Answer → List ℕ → Type 0
+Comes before Begin given after = Enters before Begin given after
+Comes before (Depart x time) given after = Tries before (Depart x time) given after
+Comes before (Receive x time sender form) given after = Tries before (Receive x time sender form) given after
+Comes before Resume given after = Enters before Resume given after

@@ -2,11 +2,11 @@
 -- vehicles present and of a desk, one after another, are those of the definition.
 -- Assumes nothing.
 use Prim.Native.Nat.{ℕ, ◌+◌, ◌<◌}
-use Rattle.entering.specs.Entering.{Does, Enters, Leaves, Puts, Refuses, Tries, start_after, start_by, start_if_anew}
+use Rattle.entering.specs.Entering.{Comes, Declares, Does, Enters, Leaves, Puts, Refuses, Tries, is_declared, start_after, start_by, start_if_anew}
 use Rattle.std.proofs.lemmas.Result.{err_from_is_err_and}
-use Rattle.std.specs.Prelude.{Err, IsErrAnd, Ok, Option, Result, Some, is_ok}
+use Rattle.std.specs.Prelude.{Err, IsErrAnd, None, Ok, Option, Result, Some, is_ok}
 use Rattle.words.proofs.Becoming.{becomes_as, becomes_then, desk-length, desk_then}
-use Rattle.words.specs.Words.{Becomes, DeskBecomes, Met, OwnWords, VehiclesBecome, section_in, start_in, start_on, with_departure}
+use Rattle.words.specs.Words.{Becomes, DeskBecomes, Met, VehiclesBecome, section_in, start_in, start_on, with_departure}
 use Rattle.working.proofs.laws.Reasons.{last_passes}
 use Rattle.working.proofs.laws.Scans.{first_passes, first_refuses}
 use Rattle.working.proofs.laws.Tests.{none_holds, none_of_both}
@@ -197,21 +197,24 @@ abbrev pub declaring : Bool → Event
 declaring true = Begin
 declaring false = Resume
 
+of_no_station : (force : Bool) → whose_is (Says (declaring force)) ≡ None
+of_no_station true = refl
+of_no_station false = refl
+
 module _ {w w₁ : List ℕ} {given : Answer} where
-  pub declares_by : (force : Bool) (v : Verdict) → let s = section_in w in let t = settled s (Says (declaring force)) v (emptied force s.refused) in
-      first_of (declared_tests force s) ≡ v → given ≡ t.answer → Puts t.answer w t.section (start_if_anew v (start_in w)) w₁ → Tries w (declaring force) given w₁
+  declares_by : (force : Bool) (v : Verdict) → let s = section_in w in let t = settled s (Says (declaring force)) v (emptied force s.refused) in
+      first_of (declared_tests force s) ≡ v → given ≡ t.answer → Becomes w w₁ t.section (start_if_anew v (start_in w)) → Enters w (declaring force) given w₁
   unfolding entered
   declares_by true v is answer words = record { answer = rw is answer; words = rw is words }
   declares_by false v is answer words = record { answer = rw is answer; words = rw is words }
 
-  pub declaration_refused : (force : Bool) {why : Refusal} → first_of (declared_tests force (section_in w)) ≡ Err why → given ≡ Err why
-      → Becomes w w₁ (section_in w) (start_in w) → Tries w (declaring force) given w₁
-  declaration_refused force {why} is answer kept = declares_by force (Err why) is answer kept
-
-  pub declared : (force : Bool) → first_of (declared_tests force (section_in w)) ≡ Ok tt → given ≡ accept 0 0 NoSpeed
-      → OwnWords w₁ (emptied force (section_in w).refused) → Tries w (declaring force) given w₁
-  declared force is answer own =
-      declares_by force (Ok tt) is answer (record { section = own.section; start = own.start; own = λ few e. own.words })
+  -- by what the declaration came to
+  pub declared : (force : Bool) (v : Verdict) → first_of (declared_tests force (section_in w)) ≡ v → Declares w v force given w₁ → Enters w (declaring force) given w₁
+  declared force (Err why) is refuses =
+      let nobodys = subst (λ (z : Option Station). Becomes w w₁ (count_refusal z (section_in w)) (start_in w)) (sym (of_no_station force)) refuses.words in
+      declares_by force (Err why) is refuses.answer nobodys
+  declared force (Ok _) is (answer, own) =
+      declares_by force (Ok _) is answer (record { section = own.section; start = own.start; own = λ few e. own.words })
 
 -- ---- MEET: 7, then 22, or the two have met
 
@@ -293,3 +296,22 @@ module _ {w w₁ : List ℕ} {event : Event} {tried : Answer} (tries : Tries w e
   not_counted is =
       let s = section_in w in
       record { answer = tries.answer; words = subst (λ (g : Answer). Puts g w (entered s event).section (start_after s event (start_in w)) w₁) (sym tries.answer ∙ is) tries.words }
+
+-- by what an entry came to: what was accepted, what was counted with it, and what is still to be counted
+pub not_refused : {w w₁ : List ℕ} (event : Event) {tried : Answer} {order : Accepted} → Comes w event tried w₁ → tried ≡ Ok order → Enters w event tried w₁
+not_refused Begin comes is = comes
+not_refused (At x time act) comes is = not_counted comes is
+not_refused (Meet x sender form) comes is = not_counted comes is
+not_refused Resume comes is = comes
+
+pub has_counted : {w w₁ : List ℕ} (event : Event) {tried given : Answer} → Comes w event tried w₁ → is_declared event ≡ true → tried ≡ given → Enters w event given w₁
+has_counted {w} {w₁} Begin comes is same = subst (λ (g : Answer). Enters w Begin g w₁) same comes
+has_counted (At x time act) comes is same = absurd (true≢false (sym is))
+has_counted (Meet x sender form) comes is same = absurd (true≢false (sym is))
+has_counted {w} {w₁} Resume comes is same = subst (λ (g : Answer). Enters w Resume g w₁) same comes
+
+pub to_count : {w w₁ : List ℕ} (event : Event) {tried : Answer} → Comes w event tried w₁ → is_declared event ≡ false → Tries w event tried w₁
+to_count Begin comes is = absurd (true≢false is)
+to_count (At x time act) comes is = comes
+to_count (Meet x sender form) comes is = comes
+to_count Resume comes is = absurd (true≢false is)

@@ -1,15 +1,16 @@
 -- What a function on a section in lent words answers and leaves, by the step that it takes; and where the ring then starts.
-use Rattle.std.specs.Prelude.{Err, List, Ok, Option, ℕ, ◌≡◌}
-use Rattle.words.specs.Words.{Becomes, DeskBecomes, RingKept, VehiclesBecome, section_in, start_in, start_on, with_departure}
-use Rattle.working.specs.Answers.{Answer}
+use Rattle.std.specs.Prelude.{Bool, Err, List, None, Ok, Option, false, true, ℕ, ◌≡◌}
+use Rattle.words.specs.Words.{Becomes, DeskBecomes, OwnWords, RingKept, VehiclesBecome, section_in, start_in, start_on, with_departure}
+use Rattle.working.specs.Answers.{Answer, accept}
 use Rattle.working.specs.Effects.{Arrive, Depart, Plan, Refuse}
 use Rattle.working.specs.Events.{At, Bad, Begin, Decoded, Event, Meet, Resume, Says}
 use Rattle.working.specs.Reasons.{begin_tests, resume_tests}
 use Rattle.working.specs.Refusals.{Verdict, first_of}
-use Rattle.working.specs.Sections.{count_refusal, desk_of, insert_at, nearest_at, vehicles_of}
+use Rattle.working.specs.Sections.{count_refusal, desk_of, emptied, insert_at, nearest_at, vehicles_of}
 use Rattle.working.specs.Steps.{done_by, entered, on_decoded, plan_of}
 use Rattle.working.specs.declared.Refusal.{Refusal}
 use Rattle.working.specs.declared.Section.{Section}
+use Rattle.working.specs.declared.Speed.TheVariants.{NoSpeed}
 use Rattle.working.specs.declared.Station.{Station}
 use Rattle.working.specs.declared.Vehicle.{Vehicle}
 
@@ -43,6 +44,11 @@ pub record Refuses (before : List ℕ) (whose : Option Station) (why : Refusal) 
   pub words : Becomes before after (count_refusal whose (section_in before)) (start_in before)
   pub ring : RingKept before after
 
+-- BEGIN or RESUME, by what its tests come to: refused as of no station, or accepted with all made anew, in force or not
+abbrev pub Declares : List ℕ → Verdict → Bool → Answer → List ℕ → Type 0
+Declares before (Err why) force given after = Refuses before None why given after
+Declares before (Ok _) force given after = (given ≡ accept 0 0 NoSpeed) × OwnWords after (emptied force (section_in before).refused)
+
 -- what the words stand for before a refusal is counted: by the answer the section as it was, or the one after it
 abbrev pub Puts : Answer → List ℕ → Section → ℕ → List ℕ → Type 0
 Puts (Err why) before s start after = Becomes before after (section_in before) (start_in before)
@@ -61,6 +67,20 @@ pub record Tries (before : List ℕ) (event : Event) (given : Answer) (after : L
 pub record Enters (before : List ℕ) (event : Event) (given : Answer) (after : List ℕ) : Type 0 where
   pub answer : given ≡ (entered (section_in before) event).answer
   pub words : Becomes before after (entered (section_in before) event).section (start_after (section_in before) event (start_in before))
+
+-- which events declare, and have their refusal counted with it
+abbrev pub is_declared : Event → Bool
+is_declared Begin = true
+is_declared (At x time act) = false
+is_declared (Meet x sender form) = false
+is_declared Resume = true
+
+-- an entry that is taken, where BEGIN and RESUME have counted what they refuse
+abbrev pub Comes : List ℕ → Event → Answer → List ℕ → Type 0
+Comes before Begin given after = Enters before Begin given after
+Comes before (At x time act) given after = Tries before (At x time act) given after
+Comes before (Meet x sender form) given after = Tries before (Meet x sender form) given after
+Comes before Resume given after = Enters before Resume given after
 
 pub record Answers (before : List ℕ) (decoded : Decoded) (given : Answer) (after : List ℕ) : Type 0 where
   pub answer : given ≡ (on_decoded (section_in before) decoded).answer

@@ -1,27 +1,27 @@
 // BEGIN, MEET and RESUME, which stand apart from the desks; their refusals are of no station.
-ghost use Rattle.entering.specs.Entering.{Tries};
+ghost use Rattle.entering.specs.Entering.{Enters, Tries};
 ghost use Rattle.working.specs.Events.{Begin, Meet, Resume, station_of};
 
-use crate::answers::accepted;
+use crate::answers::{accepted, declare};
 use rules::{begin_verdict, resume_verdict};
 use section::station_of;
-use words::{Words, empty, in_force, meet, present};
+use words::{Words, in_force, meet, present};
 use working::{Answer, Entry, Refusal};
 
 pub(crate) fn enter_begin(words: &mut Words) -> Answer
-    ensures { Tries words.old Begin result words.new }
+    ensures { Enters words.old Begin result words.new }
 {
-    begin_verdict(in_force(words))?;
-    empty(words, true);
-    accepted()
+    declare(words, begin_verdict(in_force(words)), true)
 }
 
 pub(crate) fn enter_resume(words: &mut Words) -> Answer
-    ensures { Tries words.old Resume result words.new }
+    ensures { Enters words.old Resume result words.new }
 {
-    resume_verdict(in_force(words), present(words))?;
-    empty(words, false);
-    accepted()
+    declare(
+        words,
+        resume_verdict(in_force(words), present(words)),
+        false,
+    )
 }
 
 pub(crate) fn enter_meet(words: &mut Words, e: Entry) -> Answer

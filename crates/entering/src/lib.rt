@@ -10,5 +10,5 @@ mod fields;
 mod kinds;
 mod receipts;
 
-pub use answers::{accepted, refuse};
+pub use answers::{accepted, declare, refuse};
 pub use kinds::answer_to;

@@ -1,8 +1,13 @@
-// What the programs that read standard input share: a room filled from a reader, what follows each read, and a lister's memory with the reading of a log into it.
+// What the programs that read standard input share: a room filled from a reader, what follows each read, and a lister's memory with the reading of a log into it; and a whole
+// lister of either line, for a host's own program.
 #![tactic(auto)]
 
 mod lister;
 mod reading;
+mod writing;
 
 pub use lister::Rooms;
 pub use reading::{Onward, PATIENCE, behind, fill};
+
+#[cfg(test)]
+mod tests;

@@ -52,7 +52,7 @@ module _ {w u : List ℕ} {given : Answer} (event : Event) where
   tries_by v is answer words = record { answer = rw is answer; words = rw is words }
 
   -- a refusal leaves the words as they were
-  refused : {why : Refusal} → first_of (tests_of (double_in w) event) ≡ Err why → given ≡ Err why → u ≡ w → Tries w event given u
+  pub refused : {why : Refusal} → first_of (tests_of (double_in w) event) ≡ Err why → given ≡ Err why → u ≡ w → Tries w event given u
   refused {why} is answer kept = tries_by (Err why) is answer kept
 
   done : first_of (tests_of (double_in w) event) ≡ Ok tt → given ≡ (effect_of (double_in w) event).answer → double_in u ≡ (effect_of (double_in w) event).section
@@ -175,17 +175,24 @@ spared s (Depart x time) (Ok _) is = absurd (true≢false (ap is_ok is))
 spared s (Receive x time sender form) (Ok _) is = absurd (true≢false (ap is_ok is))
 spared s Resume (Ok _) is = absurd (true≢false (ap is_ok is))
 
+-- whatever words an entry left, as long as they stand for the section before it
+pub counted_alike : {w w₁ w₂ : List ℕ} {event : Event} {tried given : Answer} {whose : Option Station} {why : Refusal}
+    → tried ≡ (on_decoded (double_in w) (Says event)).answer → double_in w₁ ≡ double_in w → tried ≡ Err why → whose ≡ whose_is (Says event)
+    → Refuses w₁ whose why given w₂ → Enters w event given w₂
+counted_alike {w} {event = event} answer alike is whose_is refuses =
+    let s = double_in w in
+    record {
+      answer = refuses.answer ∙ sym is ∙ answer;
+      section = refusal_counted refuses ∙ ap₂ count_refusal whose_is alike ∙ sym (spared s event (first_of (tests_of s event)) (sym answer ∙ is));
+    }
+
 module _ {w w₁ : List ℕ} {event : Event} {tried : Answer} (tries : Tries w event tried w₁) where
   pub counted : {w₂ : List ℕ} {given : Answer} {whose : Option Station} {why : Refusal} → tried ≡ Err why → whose ≡ whose_is (Says event)
       → Refuses w₁ whose why given w₂ → Enters w event given w₂
   counted is whose_is refuses =
-      let s = double_in w in
-      let t = on_decoded s (Says event) in
+      let t = on_decoded (double_in w) (Says event) in
       let kept : w₁ ≡ w = subst (λ (g : Answer). Puts g w t.section w₁) (sym tries.answer ∙ is) tries.words in
-      record {
-        answer = refuses.answer ∙ sym is ∙ tries.answer;
-        section = refusal_counted refuses ∙ ap₂ count_refusal whose_is (ap double_in kept) ∙ sym (spared s event (first_of (tests_of s event)) (sym tries.answer ∙ is));
-      }
+      counted_alike tries.answer (ap double_in kept) is whose_is refuses
 
   pub not_counted : {order : Accepted} → tried ≡ Ok order → Enters w event tried w₁
   not_counted is =

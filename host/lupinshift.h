@@ -21,7 +21,7 @@ extern "C" {
 #endif
 
 /* The version of the core, as CHANGELOG.md has it. */
-#define LUPIN_VERSION "1.8.4"
+#define LUPIN_VERSION "1.8.5"
 
 /* The longest log that is listed, in bytes; of a longer one the listing is `long`. */
 #define LUPIN_LONGEST_LOG 65536

@@ -1,5 +1,5 @@
-// What the lister writes: a listing in blocks on standard output, and what failed on standard error. No contract can say what std's `Print` takes, and every public function of
-// a library promises what it does: so this is no library's, and stands in both listers.
+// What the lister writes: a listing in blocks on standard output, and what failed on standard error.
+// No contract can say what std's `Print` takes: so it is private here, in both listers, and in `input` for `Rooms::list`.
 ghost use Rattle.listing.specs.LineText.{longest_line};
 ghost use Rattle.std.specs.Prelude.{length, ◌≤◌};
 

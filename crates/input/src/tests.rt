@@ -5,7 +5,6 @@ use std::cell::RefCell;
 use std::fmt::Display;
 use std::io;
 use std::io::{Eprint, Error, ErrorKind, Print, Read, Write};
-use std::process::Abort;
 use std::test::Fail;
 use step::Line;
 use working::Section as SingleLine;
@@ -110,10 +109,10 @@ fn list<S: Line>(paper: &Paper, source: &mut impl Read) -> io::Result<()> {
     rooms.list::<S>(paper, source, "desk")
 }
 
-fn assert_kept(rt: &impl Abort, kept: &RefCell<Vec<u8>>, text: &str) {
+fn holds(kept: &RefCell<Vec<u8>>, text: &str) -> bool {
     match kept.try_borrow() {
-        Ok(kept) => assert_eq!(rt; kept.as_slice(), text.as_bytes()),
-        Err(_) => assert!(rt; false, "the text is in use"),
+        Ok(kept) => kept.as_slice() == text.as_bytes(),
+        Err(_) => false,
     }
 }
 
@@ -122,12 +121,12 @@ fn lists_either_line(rt: HostRuntime) -> Result<(), Fail> {
     for most in [1, 7, 4096] {
         let paper = blank(&rt, most, 4096);
         list::<SingleLine>(&paper, &mut &SINGLE[..])?;
-        assert_kept(&rt, &paper.printed, SINGLE_LISTING);
-        assert_kept(&rt, &paper.said, "");
+        assert!(rt; holds(&paper.printed, SINGLE_LISTING));
+        assert!(rt; holds(&paper.said, ""));
         let paper = blank(&rt, most, 4096);
         list::<DoubleLine>(&paper, &mut &DOUBLE[..])?;
-        assert_kept(&rt, &paper.printed, DOUBLE_LISTING);
-        assert_kept(&rt, &paper.said, "");
+        assert!(rt; holds(&paper.printed, DOUBLE_LISTING));
+        assert!(rt; holds(&paper.said, ""));
     }
     Ok(())
 }
@@ -137,19 +136,16 @@ fn lists_either_line(rt: HostRuntime) -> Result<(), Fail> {
 fn says_what_failed(rt: HostRuntime) -> Result<(), Fail> {
     let paper = blank(&rt, 4096, 4096);
     list::<SingleLine>(&paper, &mut Torn {})?;
-    assert_kept(&rt, &paper.printed, "");
-    assert_kept(
-        &rt,
-        &paper.said,
-        "desk: reading standard input: permission denied\n",
+    assert!(rt; holds(&paper.printed, ""));
+    assert!(rt;
+        holds(
+            &paper.said,
+            "desk: reading standard input: permission denied\n"
+        )
     );
     let paper = blank(&rt, 7, 17);
     list::<SingleLine>(&paper, &mut &SINGLE[..])?;
-    assert_kept(&rt, &paper.printed, "1 1 - ok 0 0 -\n2 ");
-    assert_kept(
-        &rt,
-        &paper.said,
-        "desk: writing standard output: write zero\n",
-    );
+    assert!(rt; holds(&paper.printed, "1 1 - ok 0 0 -\n2 "));
+    assert!(rt; holds(&paper.said, "desk: writing standard output: write zero\n"));
     Ok(())
 }

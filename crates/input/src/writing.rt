@@ -1,4 +1,4 @@
-// What the listers write: a listing in blocks on standard output, and what failed on standard error.
+// What `Rooms::list` writes: a listing in blocks on standard output, and what failed on standard error. The listers have theirs (decision 123).
 ghost use Rattle.listing.specs.LineText.{longest_line};
 ghost use Rattle.std.specs.Prelude.{length, ◌≤◌};
 

@@ -1,4 +1,4 @@
-// `Rooms::list`, of which no contract can say what it prints: the listing of either line, by whole and by short writes, and what is said where a read or a write fails.
+// `Rooms::list`, of which no contract can say what it prints: the listing of either line, by whole and by short reads and writes, and what is said where one fails.
 use crate::Rooms;
 use double::Section as DoubleLine;
 use std::cell::RefCell;
@@ -27,7 +27,12 @@ const DOUBLE_LISTING: &str =
     5 5 B ok 1 256 25/10\n6 6 B no 20\n7 6 B ok 0 0 -\n8 8 - no 8\n9 6 B ok 0 0 -\n10 5 A no 19\n\
     11 5 A ok 3 256 25/10\n12 6 A ok 0 0 -\n13 6 B ok 0 0 -\n14 8 - ok 0 0 -\nend 14 10 2 1 1 0 0 0 0 0\n";
 
-// What was printed and what was said. A write takes so many bytes at most, and none where so many are printed.
+// The numbers by which the system says that a read failed, and that no room is left to write.
+const EIO: i32 = 5;
+
+const ENOSPC: i32 = 28;
+
+// An output that keeps what is printed and what is said. A write takes `most` bytes, and fails once `room` bytes are printed.
 #[derive(Drop)]
 struct Paper {
     printed: RefCell<Vec<u8>>,
@@ -36,7 +41,7 @@ struct Paper {
     room: usize,
 }
 
-fn blank(rt: &HostRuntime, most: usize, room: usize) -> Paper {
+fn blank_paper(rt: &HostRuntime, most: usize, room: usize) -> Paper {
     Paper {
         printed: RefCell::new(Vec::new(rt.alloc())),
         said: RefCell::new(Vec::new(rt.alloc())),
@@ -49,6 +54,13 @@ fn keep<D: Display + Drop>(kept: &RefCell<Vec<u8>>, value: D, end: &str) -> io::
     match kept.try_borrow_mut() {
         Ok(mut kept) => write!(*kept, "{value}{end}"),
         Err(_) => Err(Error::from(ErrorKind::Other)),
+    }
+}
+
+fn is_kept(kept: &RefCell<Vec<u8>>, text: &str) -> bool {
+    match kept.try_borrow() {
+        Ok(kept) => kept.as_slice() == text.as_bytes(),
+        Err(_) => false,
     }
 }
 
@@ -74,6 +86,9 @@ impl Print for Paper {
             Err(_) => return Err(Error::from(ErrorKind::Other)),
         };
         let left = self.room.saturating_sub(printed);
+        if left == 0 {
+            return Err(Error::from_raw_os_error(ENOSPC));
+        }
         let count = bytes.len().min(self.most).min(left);
         self.write_all(&bytes[..count])?;
         Ok(count)
@@ -90,62 +105,90 @@ impl Eprint for Paper {
     }
 }
 
-// A reader that fails.
+// A reader that a signal interrupts before each read, that brings few bytes at a time, and that ends behind them or fails there.
 #[derive(Drop)]
-struct Torn {}
+struct Halting<'a> {
+    rest: &'a [u8],
+    interrupted: bool,
+    fails: bool,
+}
 
-impl Read for Torn {
-    fn read(&mut self, _buf: &mut [u8]) -> io::Result<usize> {
-        Err(Error::from(ErrorKind::PermissionDenied))
+fn in_pieces(log: &[u8], fails: bool) -> Halting<'_> {
+    Halting {
+        rest: log,
+        interrupted: false,
+        fails,
     }
 }
 
-// A log listed by a reader of that line's, in blocks that have room for few lines.
-fn list<S: Line>(paper: &Paper, source: &mut impl Read) -> io::Result<()> {
+impl Read for Halting<'_> {
+    fn read(&mut self, buf: &mut [u8]) -> io::Result<usize> {
+        self.interrupted = !self.interrupted;
+        if self.interrupted {
+            return Err(Error::from(ErrorKind::Interrupted));
+        }
+        if self.fails && self.rest.is_empty() {
+            return Err(Error::from_raw_os_error(EIO));
+        }
+        let count = self.rest.len().min(buf.len()).min(7);
+        buf[..count].copy_from_slice(&self.rest[..count]);
+        self.rest = &self.rest[count..];
+        Ok(count)
+    }
+}
+
+// Whether the source, listed as a log of that line, is printed so and no more, and no more than that is said. The blocks have room for few lines.
+fn lists<S: Line>(
+    paper: &Paper,
+    source: &mut impl Read,
+    printed: &str,
+    said: &str,
+) -> io::Result<bool> {
     let mut rooms = Rooms {
         log: [0u8; 65537],
         block: [0u8; 256],
     };
-    rooms.list::<S>(paper, source, "desk")
-}
-
-fn holds(kept: &RefCell<Vec<u8>>, text: &str) -> bool {
-    match kept.try_borrow() {
-        Ok(kept) => kept.as_slice() == text.as_bytes(),
-        Err(_) => false,
-    }
+    rooms.list::<S>(paper, source, "desk")?;
+    Ok(is_kept(&paper.printed, printed) && is_kept(&paper.said, said))
 }
 
 #[test]
 fn lists_either_line(rt: HostRuntime) -> Result<(), Fail> {
     for most in [1, 7, 4096] {
-        let paper = blank(&rt, most, 4096);
-        list::<SingleLine>(&paper, &mut &SINGLE[..])?;
-        assert!(rt; holds(&paper.printed, SINGLE_LISTING));
-        assert!(rt; holds(&paper.said, ""));
-        let paper = blank(&rt, most, 4096);
-        list::<DoubleLine>(&paper, &mut &DOUBLE[..])?;
-        assert!(rt; holds(&paper.printed, DOUBLE_LISTING));
-        assert!(rt; holds(&paper.said, ""));
+        let single = blank_paper(&rt, most, 4096);
+        assert!(rt; lists::<SingleLine>(&single, &mut &SINGLE[..], SINGLE_LISTING, "")?);
+        let double = blank_paper(&rt, most, 4096);
+        assert!(rt; lists::<DoubleLine>(&double, &mut &DOUBLE[..], DOUBLE_LISTING, "")?);
     }
+    Ok(())
+}
+
+#[test]
+fn lists_what_comes_in_pieces(rt: HostRuntime) -> Result<(), Fail> {
+    let paper = blank_paper(&rt, 4096, 4096);
+    assert!(rt; lists::<SingleLine>(&paper, &mut in_pieces(SINGLE, false), SINGLE_LISTING, "")?);
+    Ok(())
+}
+
+// A byte more than the longest log, which the room takes.
+#[test]
+fn tells_a_longer_log(rt: HostRuntime) -> Result<(), Fail> {
+    let paper = blank_paper(&rt, 4096, 4096);
+    assert!(rt; lists::<SingleLine>(&paper, &mut &[0u8; 65537][..], "long\n", "")?);
     Ok(())
 }
 
 // After a failed read nothing is listed, and after a failed write nothing more.
 #[test]
 fn says_what_failed(rt: HostRuntime) -> Result<(), Fail> {
-    let paper = blank(&rt, 4096, 4096);
-    list::<SingleLine>(&paper, &mut Torn {})?;
-    assert!(rt; holds(&paper.printed, ""));
-    assert!(rt;
-        holds(
-            &paper.said,
-            "desk: reading standard input: permission denied\n"
-        )
-    );
-    let paper = blank(&rt, 7, 17);
-    list::<SingleLine>(&paper, &mut &SINGLE[..])?;
-    assert!(rt; holds(&paper.printed, "1 1 - ok 0 0 -\n2 "));
-    assert!(rt; holds(&paper.said, "desk: writing standard output: write zero\n"));
+    let paper = blank_paper(&rt, 4096, 4096);
+    let said = "desk: reading standard input: Input/output error\n";
+    assert!(rt; lists::<SingleLine>(&paper, &mut in_pieces(SINGLE, true), "", said)?);
+    let paper = blank_paper(&rt, 7, 17);
+    let said = "desk: writing standard output: No space left on device\n";
+    assert!(rt; lists::<SingleLine>(&paper, &mut &SINGLE[..], "1 1 - ok 0 0 -\n2 ", said)?);
+    let paper = blank_paper(&rt, 0, 4096);
+    let said = "desk: writing standard output: write zero\n";
+    assert!(rt; lists::<SingleLine>(&paper, &mut &SINGLE[..], "", said)?);
     Ok(())
 }

@@ -12,7 +12,7 @@ use words::fresh_words;
 const ROOM: usize = 512;
 
 // Writes all of a block. A write that fails, as where a signal comes first, or that takes nothing ends it: std's `write_all` tries an interrupted write again.
-pub(crate) fn write_whole(out: &impl Print, block: &[u8]) -> io::Result<()> {
+fn write_whole(out: &impl Print, block: &[u8]) -> io::Result<()> {
     let mut rest = block;
     while !rest.is_empty() {
         let count = out.write_some(rest)?;
